@@ -1,0 +1,192 @@
+-- Every state of the secondary that calls reach from open means what document 01 says (specs/Meaning.antt): the machine does what the
+-- index machine does (Image.antt), and that follows the rule (Follows.antt).
+-- Assumes nothing.
+use mathlib.Core.Path.{_≡_, refl, sym, _∙_, ap, subst}
+use mathlib.Core.Bool.{Bool, true, false, not}
+use mathlib.Core.List.{List, [], _∷_, _++_, map}
+use mathlib.Core.Logic.{_⊎_, inl, inr, ⊎-elim}
+use Prim.Native.Nat.{ℕ, zero, suc, _+_, _-_, _%_, _≤_, _<_}
+use native.Mathlib.Omega.{arith}
+use native.Mathlib.Nat.{mod-lt, mod-eq-of-lt, mod-add-mod}
+use borrow.Author.Tests.{ltb-true, leb-false}
+use lib.Dec.{ltb, leb}
+use lib.ListN.{length, take, length-map}
+use Rattle.circle.specs.Circle.{forward, forward-lands}
+use Rattle.layout.specs.Basics.{if_then_else_, _and_, Outcome, done, refused}
+use Rattle.layout.specs.Frames.{mostRanges, writeStatus}
+use Rattle.bearer.specs.Bearer.{isLength, numbers, half, pdcps, pdcpBefore, After}
+use Rattle.bearer.specs.Losses.{beforeBase}
+use Rattle.bearer.specs.Keeper as K
+use Rattle.bearer.specs.Rule.{Fates, arrival, expiry}
+use Rattle.bearer.specs.Demand3.{numberOf, inRanges}
+use Rattle.bearer.specs.Meaning.{Means, Lowest, packetsOf, Reached, opened, arrived, expired, confirmed, reported, KeeperMeans}
+use Rattle.bearer.proofs.Index.{Indexed, image, confirmedI, reportedI}
+use Rattle.bearer.proofs.Lists.{contrary, and-true}
+use Rattle.bearer.proofs.Members.{order, passed, done-one}
+use Rattle.bearer.proofs.Follows.{Follows, follows-start}
+use Rattle.bearer.proofs.FollowsArrival.{follows-arrived}
+use Rattle.bearer.proofs.FollowsExpiry.{follows-expired}
+use Rattle.bearer.proofs.FollowsStatus.{follows-confirm, follows-status}
+use Rattle.bearer.proofs.FollowsMeans.{follows-means, follows-reach}
+use Rattle.bearer.proofs.GivenUp.{not-refused}
+use Rattle.bearer.proofs.ImageLaws.{positive}
+use Rattle.bearer.proofs.Image.{image-arrive, image-expire}
+use Rattle.bearer.proofs.ImageStatus.{image-confirm, image-status, image-carried}
+
+-- a state as the index machine has it
+pub record Indexes (L first : ℕ) (k : K.Keeper) (r : Fates) (told : ℕ) : Type 0 where
+  pub a : Indexed
+  pub state-is : k ≡ image L first a
+  pub follows : Follows (half L) a r told
+
+-- the lowest open packet is one
+one-lowest : (r : Fates) (b c : ℕ) → Lowest r b → Lowest r c → b ≡ c
+one-lowest r b c l m =
+    ⊎-elim (λ (h : b < c). absurd (contrary (l .open-itself) (m .none-below b h)))
+    (λ (h : c ≤ b). ⊎-elim (λ (g : c < b). absurd (contrary (m .open-itself) (l .none-below c g))) (λ (g : b ≤ c). omega arith) (order c b))
+    (order b c)
+
+-- ---- what an accepted call has passed
+
+-- an arrival at a packet's number is at a distance below half the circle
+pub record Arrives (L first : ℕ) (a : Indexed) (n p : ℕ) : Type 0 where
+  pub open-end : a .closed ≡ false
+  pub number-is : n ≡ numberOf L first (a .base + forward (numbers L) (numberOf L first (a .base)) n)
+  pub near : forward (numbers L) (numberOf L first (a .base)) n < half L
+  pub fits : p < pdcps L
+
+arrives : (L first : ℕ) (a : Indexed) (n p c : ℕ) → K.arrive (image L first a) n p .answer ≡ done c → Arrives L first a n p
+arrives L first a n p c e =
+    let k = image L first a in
+    let shut = not-refused (a .closed) 9 k _ c e in
+    let bad = not-refused (not (ltb n (numbers L) and ltb p (pdcps L))) 10 k _ c (shut .1) in
+    let late = not-refused (beforeBase (numbers L) (numberOf L first (a .base)) n) 11 k _ c (bad .1) in
+    let good = and-true (ltb n (numbers L)) (ltb p (pdcps L)) (not-not (ltb n (numbers L) and ltb p (pdcps L)) (bad .0)) in
+    let small : n < numbers L = ltb-true n (numbers L) (good .0) in
+    let d = forward (numbers L) (numberOf L first (a .base)) n in
+    record {
+      open-end = shut .0;
+      number-is =
+        sym (forward-lands (numbers L) (positive L) (numberOf L first (a .base)) n small)
+        ∙ mod-add-mod (first + a .base) (numbers L) d
+        ∙ ap (λ (x : ℕ). x % numbers L) (let z : first + a .base + d ≡ first + (a .base + d) = omega arith in z);
+      near = leb-false (half L) d (late .0);
+      fits = ltb-true p (pdcps L) (good .1)
+    }
+  where
+    not-not : (b : Bool) → not b ≡ false → b ≡ true
+    not-not true h = refl
+    not-not false h = sym h
+
+-- ---- every call
+
+module _ (L first : ℕ) where
+  -- an accepted arrival is of the packet so far past base, and answers how many become lost
+  arrival-step : (k : K.Keeper) (r : Fates) (told n p c base : ℕ) → Lowest r base → Indexes L first k r told → K.arrive k n p .answer ≡ done c
+      → Indexes L first (K.arrive k n p .state) (arrival r (base + forward (K.circle k) (k .base) n)) told
+      × (length (arrival r (base + forward (K.circle k) (k .base) n) .lost) ≡ length (r .lost) + c)
+  arrival-step k r told n p c base low x e =
+      let a = x .a in
+      let said : K.arrive (image L first a) n p .answer ≡ done c = ap (λ (y : K.Keeper). K.arrive y n p .answer) (sym (x .state-is)) ∙ e in
+      let h = arrives L first a n p c said in
+      let d = forward (numbers L) (numberOf L first (a .base)) n in
+      let does = ap (λ (m : ℕ). K.arrive (image L first a) m p) (h .number-is) ∙ image-arrive L first a (follows-reach (x .follows)) d p (h .near) (h .fits) (h .open-end) in
+      let goes = follows-arrived (x .follows) p d c (sym (ap (λ (y : After K.Keeper ℕ). y .answer) does) ∙ said) in
+      let same : a .base ≡ base = one-lowest r (a .base) base (x .follows .lowest) low in
+      let far : base + forward (K.circle k) (k .base) n ≡ a .base + d = ap (λ (b : ℕ). b + forward (K.circle k) (k .base) n) (sym same) ∙ ap (λ (y : K.Keeper). a .base + forward (K.circle y) (y .base) n) (x .state-is) in
+      rw far
+      (record {
+        a = _;
+        state-is = ap (λ (y : K.Keeper). K.arrive y n p .state) (x .state-is) ∙ ap (λ (y : After K.Keeper ℕ). y .state) does;
+        follows = goes .0
+      }, goes .1)
+
+  expiry-step : (k : K.Keeper) (r : Fates) (told c : ℕ) → Indexes L first k r told → K.expire k .answer ≡ done c
+      → Indexes L first (K.expire k .state) (expiry r) told × (length (expiry r .lost) ≡ length (r .lost) + c)
+  expiry-step k r told c x e =
+      let a = x .a in
+      let said : K.expire (image L first a) .answer ≡ done c = ap (λ (y : K.Keeper). K.expire y .answer) (sym (x .state-is)) ∙ e in
+      let shut = not-refused (a .closed) 9 (image L first a) _ c said in
+      let does = image-expire L first a (follows-reach (x .follows)) (shut .0) in
+      let goes = follows-expired (x .follows) c (sym (ap (λ (y : After K.Keeper ℕ). y .answer) does) ∙ said) in
+      (record {
+        a = _;
+        state-is = ap (λ (y : K.Keeper). K.expire y .state) (x .state-is) ∙ ap (λ (y : After K.Keeper ℕ). y .state) does;
+        follows = goes .0
+      }, goes .1)
+
+  confirm-step : (k : K.Keeper) (r : Fates) (told n : ℕ) → Indexes L first k r told → K.confirm k n .answer ≡ done tt → Indexes L first (K.confirm k n .state) r told
+  confirm-step k r told n x e =
+      let c = image-confirm L first (x .a) (follows-reach (x .follows)) n (ap (λ (y : K.Keeper). K.confirm y n .answer) (sym (x .state-is)) ∙ e) in
+      record {
+        a = confirmedI (x .a) (c .place);
+        state-is = ap (λ (y : K.Keeper). K.confirm y n .state) (x .state-is) ∙ c .state-is;
+        follows = follows-confirm (x .follows) (c .place) (c .within) (c .before)
+      }
+
+  -- an accepted status leaves the reported state
+  reported-state : (k : K.Keeper) (d m : ℕ) (final : Bool) (buffer : List ℕ) (c : ℕ) → K.status k d m final buffer .answer ≡ done c → K.status k d m final buffer .state ≡ K.reportedState k final
+  reported-state k d m final buffer c e = shut (k .closed) (K.reportedAs k final (writeStatus (K.statusNow k d m final) buffer)) (final and ltb mostRanges (length (k .runs))) written e
+    where
+      shut : (t : Bool) (x : K.Reported) (u : Bool) → (x .answer ≡ done c → x .state ≡ K.reportedState k final)
+          → (if t then record { answer = refused 9; state = k; buffer = buffer } else (if u then record { answer = refused 22; state = k; buffer = buffer } else x)) .answer ≡ done c
+          → (if t then record { answer = refused 9; state = k; buffer = buffer } else (if u then record { answer = refused 22; state = k; buffer = buffer } else x)) .state ≡ K.reportedState k final
+      shut true x u f e = absurd (let z : _≡_ {A = ℕ} 0 1 = cc in omega arith)
+      shut false x true f e = absurd (let z : _≡_ {A = ℕ} 0 1 = cc in omega arith)
+      shut false x false f e = f e
+      by : (o : Outcome ℕ) → o ≡ done c → K.stateBy k final o ≡ K.reportedState k final
+      by (done n) e = refl
+      by (refused n) e = absurd (let z : _≡_ {A = ℕ} 0 1 = cc in omega arith)
+      written : K.reportedAs k final (writeStatus (K.statusNow k d m final) buffer) .answer ≡ done c
+          → K.reportedAs k final (writeStatus (K.statusNow k d m final) buffer) .state ≡ K.reportedState k final
+      written h = by _ h
+
+  status-step : (k : K.Keeper) (r : Fates) (told d m : ℕ) (final : Bool) (buffer : List ℕ) (c : ℕ) → Indexes L first k r told → K.status k d m final buffer .answer ≡ done c
+      → Indexes L first (K.status k d m final buffer .state) r (told + length (inRanges L (K.statusNow k d m final .ranges)))
+  status-step k r told d m final buffer c x e =
+      let a = x .a in
+      let reach = follows-reach (x .follows) in
+      let carried : length (inRanges L (K.statusNow k d m final .ranges)) ≡ length (packetsOf (take mostRanges (a .runs))) =
+          ap (λ (y : K.Keeper). length (inRanges L (K.statusNow y d m final .ranges))) (x .state-is) ∙ ap length (image-carried L first a reach d m final) ∙ length-map (packetsOf (take mostRanges (a .runs))) (numberOf L first)
+      in
+      rw carried (record {
+        a = reportedI a final;
+        state-is = reported-state k d m final buffer c e ∙ ap (λ (y : K.Keeper). K.reportedState y final) (x .state-is) ∙ image-status L first a reach .state-is final;
+        follows = follows-status (x .follows) final
+      })
+
+-- ---- the statements
+
+open-step : (L first f : ℕ) (k : K.Keeper) → K.openKeeper L first f ≡ done k → Indexes L first k (record { received = []; lost = [] }) 0
+open-step L first f k e =
+    let ok = passed (isLength L) 7 _ k e in
+    let good = passed (ltb first (numbers L) and ltb f (pdcps L)) 10 _ k (ok .1) in
+    let small : first < numbers L = ltb-true first (numbers L) (and-true (ltb first (numbers L)) (ltb f (pdcps L)) (good .0) .0) in
+    let number : first ≡ numberOf L first 0 = sym (ap (λ (n : ℕ). n % numbers L) (let z : first + 0 ≡ first = omega arith in z) ∙ mod-eq-of-lt small) in
+    record {
+      a = record { base = 0; reported = pdcpBefore L f; closed = false; runs = []; records = [] };
+      state-is = sym (done-one _ k (good .1)) ∙ ap (λ (b : ℕ). record { bits = L; base = b; reported = pdcpBefore L f; closed = false; runs = []; records = [] }) number;
+      follows = follows-start (half L) (pdcpBefore L f)
+    }
+
+indexes : (L first f : ℕ) {k : K.Keeper} {r : Fates} {told : ℕ} → Reached L first f k r told → Indexes L first k r told
+indexes L first f (opened {k = k} e) = open-step L first f k e
+indexes L first f (arrived {k = k} {r = r} {told = told} n p c base x low e) = arrival-step L first k r told n p c base low (indexes L first f x) e .0
+indexes L first f (expired {k = k} {r = r} {told = told} c x e) = expiry-step L first k r told c (indexes L first f x) e .0
+indexes L first f (confirmed {k = k} {r = r} {told = told} n x e) = confirm-step L first k r told n (indexes L first f x) e
+indexes L first f (reported {k = k} {r = r} {told = told} d m final buffer c x e) = status-step L first k r told d m final buffer c (indexes L first f x) e
+
+-- every state that calls reach means what document 01 says
+pub keeper-means : KeeperMeans
+keeper-means L first f k r told x =
+    let i = indexes L first f x in
+    subst (λ (y : K.Keeper). Means L first y r told) (sym (i .state-is)) (follows-means first (i .follows))
+
+-- an accepted arrival answers how many became lost by the rule
+pub arrival-answers : (L first f : ℕ) (k : K.Keeper) (r : Fates) (told n p c base : ℕ) → Reached L first f k r told → Lowest r base → K.arrive k n p .answer ≡ done c
+    → length (arrival r (base + forward (K.circle k) (k .base) n) .lost) ≡ length (r .lost) + c
+arrival-answers L first f k r told n p c base x low e = arrival-step L first k r told n p c base low (indexes L first f x) e .1
+
+-- and so does an accepted expiry
+pub expiry-answers : (L first f : ℕ) (k : K.Keeper) (r : Fates) (told c : ℕ) → Reached L first f k r told → K.expire k .answer ≡ done c → length (expiry r .lost) ≡ length (r .lost) + c
+expiry-answers L first f k r told c x e = expiry-step L first k r told c (indexes L first f x) e .1

@@ -1,0 +1,152 @@
+-- Why the secondary never runs out of room or of numbers while both ends are joined: every packet from base on, and every one from the
+-- first unreported loss on, waits at the master, which holds at most 512.
+-- Assumes nothing.
+use mathlib.Core.Path.{_≡_, refl, sym, _∙_, ap}
+use mathlib.Core.Bool.{Bool, true, false}
+use mathlib.Core.List.{List, [], _∷_, _++_}
+use mathlib.Core.Logic.{_⊎_, inl, inr, ⊎-elim}
+use Prim.Native.Nat.{ℕ, zero, suc, _+_, _-_, _/_, _≤_, _<_}
+use native.Mathlib.Omega.{arith}
+use borrow.Author.Tests.{eq-eqb, ne-eqb}
+use lib.Dec.{eqb}
+use lib.ListN.{length, take, drop}
+use lib.Seq.{take-take}
+use Rattle.layout.specs.Basics.{if_then_else_}
+use Rattle.bearer.specs.Bearer.{isLength, half, pdcps, mostEntries}
+use Rattle.bearer.specs.Losses.{Gap}
+use Rattle.bearer.specs.Keeper.{Keeper}
+use Rattle.bearer.specs.Ledger.{Entry, waits}
+use Rattle.bearer.specs.Rule.{isIn}
+use Rattle.bearer.specs.Demand3.{World, packets, In, Rising}
+use Rattle.bearer.specs.Meaning.{packetsFrom, Each, Maximal}
+use Rattle.bearer.proofs.Index.{froms}
+use Rattle.bearer.proofs.Lists.{tested, contrary, in-head, in-tail, in-cons, in-take, in-drop, rising-head, rising-tail, rising-cons}
+use Rattle.bearer.proofs.Members.{order, in-none, not-in}
+use Rattle.bearer.proofs.Open.{in-packets, rising-packets, length-packets}
+use Rattle.bearer.proofs.Runs.{maximal-first, maximal-tail}
+use Rattle.bearer.proofs.Marks.{waitingOf, waiting-held}
+use Rattle.bearer.proofs.Pdcps.{few}
+use Rattle.bearer.proofs.Lengths.{Roomy, roomy}
+use Rattle.bearer.proofs.Flight.{Flight, flight-cut, flight-told, flight-closed}
+use Rattle.bearer.proofs.Joint.{Second, First, Joint, secondMark, masterMark}
+
+-- ---- counting
+
+-- a rising list all of which is in another is no longer
+pub rising-count : (ys xs : List ℕ) → Rising xs → Rising ys → ((x : ℕ) → In x xs → In x ys) → length xs ≤ length ys
+rising-count ys [] r s f = omega arith
+rising-count [] (x ∷ xs) r s f = absurd (in-none (f x (in-head x xs)))
+rising-count (y ∷ ys) (x ∷ xs) r s f =
+    ⊎-elim
+    (λ (e : x ≡ y).
+    let h = rising-count ys xs (rising-tail x xs r) (rising-tail y ys s) (λ z p.
+      ⊎-elim (λ q. absurd (let k = rising-head x xs r z p in omega arith)) (λ q. q) (in-cons z y ys (f z (in-tail z x xs p)))) in
+    omega arith)
+    (λ p.
+    let first = rising-head y ys s x p in
+    let h = rising-count ys (x ∷ xs) r (rising-tail y ys s) (λ z q.
+      ⊎-elim (λ e. absurd (⊎-elim (λ t. omega arith) (λ t. let k = rising-head x xs r z t in omega arith) (in-cons z x xs q))) (λ t. t) (in-cons z y ys (f z q))) in
+    omega arith)
+    (in-cons x y ys (f x (in-head x xs)))
+
+-- who waits, in sending order
+waiting-rising : (es : List (Entry ℕ)) → Rising (packets es) → Rising (waitingOf es)
+waiting-rising [] r = tt
+waiting-rising (e ∷ es) r = go (waits e) (waiting-rising es (rising-tail (e .label) (packets es) r))
+  where
+    go : (b : Bool) → Rising (waitingOf es) → Rising (if b then e .label ∷ waitingOf es else waitingOf es)
+    go true s = rising-cons (e .label) (waitingOf es) (λ x p. rising-head (e .label) (packets es) r x (waiting-held x es p)) s
+    go false s = s
+
+waiting-most : (es : List (Entry ℕ)) → length (waitingOf es) ≤ length es
+waiting-most [] = omega arith
+waiting-most (e ∷ es) = go (waits e) (waiting-most es)
+  where
+    go : (b : Bool) → length (waitingOf es) ≤ length es → length (if b then e .label ∷ waitingOf es else waitingOf es) ≤ suc (length es)
+    go true h = omega arith
+    go false h = omega arith
+
+-- runs between two packets: each and the one before it take two
+pub runs-count : (lo hi : ℕ) (gs : List Gap) → Maximal gs → ((f : ℕ) → In f (froms gs) → lo ≤ f) → Each (λ (g : Gap). g .to ≤ hi) gs → length gs + length gs ≤ suc (hi - lo)
+runs-count lo hi [] m f e = omega arith
+runs-count lo hi (g ∷ []) m f e = let a = f (g .from) (in-head (g .from) []) in let b = e .0 in omega arith
+runs-count lo hi (g ∷ h ∷ gs) m f e =
+    let a = f (g .from) (in-head (g .from) (froms (h ∷ gs))) in
+    let rest = runs-count (suc (g .to)) hi (h ∷ gs) (m .2) (λ x p. later h gs (m .2) x p (m .1)) (e .1) in
+    let c = maximal-first h gs (m .2) in
+    let d = e .1 .0 in
+    let b = m .0 in
+    let k = m .1 in
+    omega arith
+  where
+    later : (h : Gap) (gs : List Gap) → Maximal (h ∷ gs) → (x : ℕ) → In x (froms (h ∷ gs)) → g .to < h .from → suc (g .to) ≤ x
+    later h [] m x p l = ⊎-elim (λ q. omega arith) (λ q. absurd (in-none q)) (in-cons x (h .from) [] p)
+    later h (i ∷ gs) m x p l =
+        ⊎-elim (λ q. omega arith) (λ q. later i gs (m .2) x q (let a = m .0 in let b = m .1 in omega arith)) (in-cons x (h .from) (froms (i ∷ gs)) p)
+
+-- the front of a rising list lies below what follows it
+front-below : (n : ℕ) (l : List ℕ) (y x : ℕ) → Rising l → In y (take n l) → In x (drop n l) → y < x
+front-below zero l y x r p q = absurd (in-none p)
+front-below (suc n) [] y x r p q = absurd (in-none p)
+front-below (suc n) (z ∷ l) y x r p q =
+    ⊎-elim (λ e. let k = rising-head z l r x (in-drop x n l q) in omega arith) (λ t. front-below n l y x (rising-tail z l r) t q) (in-cons y z (take n l) p)
+
+-- ---- who waits at the master
+
+module _ (L first : ℕ) (ok : isLength L ≡ true) (w : World) (j : Joint L first w) (o : w .keeper .closed ≡ false) where
+  abbrev lost : List ℕ
+  lost = w .fates .lost
+
+  -- the master is open while the secondary is
+  pub master-open : w .ledger .closed ≡ false
+  master-open =
+      ⊎-elim
+      (λ c.
+      let e = flight-closed L first (w .sent) (w .fates .lost) (w .fates .received) (j .flight) c .1 in
+      let shut : j .a .closed ≡ true = ap (λ (m : Rattle.bearer.proofs.Flight.Mark). m .closed) (sym e) ∙ c in
+      absurd (contrary shut (ap (λ (k : Keeper). k .closed) (sym (j .second .keeper-is)) ∙ o)))
+      (λ c. c)
+      (tested (w .ledger .closed))
+
+  pub cut-there-first : j .cut-there ≤ j .cut
+  cut-there-first = flight-cut L first (w .sent) (w .fates .lost) (w .fates .received) (j .flight)
+
+  -- a packet that the cut isn't past and that isn't lost waits
+  pub waits-unlost : (y : ℕ) → j .cut ≤ y → y < length (w .sent) → isIn y (w .fates .lost) ≡ false → In y (waitingOf (w .ledger .entries))
+  waits-unlost y h k n =
+      j .there .waiting-all master-open y (let c = cut-there-first in omega arith) k (not-in y (take (j .told-there) lost) (λ p. contrary (in-take y (j .told-there) lost p) n))
+
+  -- and so does every packet from a loss still to be told on
+  pub waits-untold : (x y : ℕ) → In x (drop (j .told) (w .fates .lost)) → x ≤ y → y < length (w .sent) → In y (waitingOf (w .ledger .entries))
+  waits-untold x y d h k =
+      j .there .waiting-all master-open y (let c = cut-there-first in let a = j .second .above-cut x d in omega arith) k
+      (not-in y (take (j .told-there) lost) (λ p.
+        let more : In y (take (j .told) lost) = in-take y (j .told-there) (take (j .told) lost) (rw (take-take (j .told-there) (j .told) lost (flight-told L first (w .sent) (w .fates .lost) (w .fates .received) (j .flight))) p) in
+        let z = front-below (j .told) lost y x (j .second .follows .lost-rising) more d in
+        omega arith))
+
+  -- packets in sending order that all wait are at most 512
+  pub at-most : (xs : List ℕ) → Rising xs → ((x : ℕ) → In x xs → In x (waitingOf (w .ledger .entries))) → length xs ≤ mostEntries
+  at-most xs r f =
+      let es = w .ledger .entries in
+      let a = rising-count (waitingOf es) xs r (waiting-rising es (j .there .master .entries-are .rising)) f in
+      let b = waiting-most es in
+      let c = j .there .master .most in
+      omega arith
+
+  -- so from where on all packets wait, at most 512 were sent
+  pub sent-most : (x : ℕ) → ((y : ℕ) → x ≤ y → y < length (w .sent) → In y (waitingOf (w .ledger .entries))) → length (w .sent) ≤ x + mostEntries
+  sent-most x f =
+      let n = length (w .sent) - x in
+      let a = at-most (packetsFrom x n) (rising-packets x n) (λ y p. let q = in-packets x n y p in f y (q .0) (let z = q .1 in omega arith)) in
+      let b = length-packets x n in
+      omega (arith, a, b)
+
+  -- fewer than half the numbers were sent from the secondary's cut on
+  pub sent-near : j .cut < length (w .sent) → length (w .sent) < j .cut + half L
+  sent-near h =
+      let r = roomy L ok in
+      let c = cut-there-first in
+      let f = few (pdcps L) (w .ledger .highest) (w .ledger .sent) (j .cut-there) (w .sent) (r .some-pdcps) (j .there .master .ordered) (omega arith) in
+      let g = r .more-pdcps in
+      omega arith

@@ -1,0 +1,227 @@
+-- The master's machine: what each call answers and leaves, in every state (document 01, "The master's rule" and "Refusal
+-- numbers"). Every definition is total. An entry bears a label of any type, which no definition looks at: the engine's
+-- entries bear none (Unit), and demand 3 writes the packet's own name on it.
+-- Assumes nothing.
+use mathlib.Core.Bool.{Bool, true, false, not}
+use mathlib.Core.List.{List, [], _∷_, _++_}
+use mathlib.Core.Option.{Option, none, some}
+use Prim.Native.Nat.{ℕ, zero, suc, _+_, _-_, _*_, _/_, _%_}
+use lib.Dec.{ltb, leb, eqb}
+use lib.ListN.{length, take, drop}
+use Rattle.circle.specs.Circle.{forward}
+use Rattle.layout.specs.Basics.{if_then_else_, _and_, _or_, alike, Outcome, done, refused}
+use Rattle.layout.specs.Frames.{Range, Status, Reading, data-of, status-of, refuse, readFrame}
+use Rattle.bearer.specs.Bearer.{mostEntries, isLength, isLong, numbers, pdcps, pdcpBefore, After}
+
+-- what became of a packet that the master still holds
+pub data Fate : Type 0 where
+  waiting : Fate
+  lost : Fate
+
+-- a packet that went out: its two numbers, its fate, and the label
+pub record Entry (A : Type 0) : Type 0 where
+  pub number : ℕ
+  pub pdcp : ℕ
+  pub fate : Fate
+  pub label : A
+
+-- the master's end: L, the next X2-U number, the highest last accepted (H), the last PDCP number sent, whether it is closed, both
+-- sizes of the last status, and the entries in sending order
+pub record Ledger (A : Type 0) : Type 0 where
+  pub bits : ℕ
+  pub next : ℕ
+  pub highest : ℕ
+  pub sent : ℕ
+  pub closed : Bool
+  pub desired : ℕ
+  pub minimum : ℕ
+  pub entries : List (Entry A)
+
+-- ---- open
+
+-- 7, 10, or a fresh end
+abbrev pub openLedger : {A : Type 0} → ℕ → ℕ → ℕ → Outcome (Ledger A)
+openLedger L first f =
+    if not (isLength L) then refused 7 else
+    if not (ltb first (numbers L) and ltb f (pdcps L)) then refused 10 else
+    done (record { bits = L; next = first; highest = pdcpBefore L f; sent = pdcpBefore L f; closed = false; desired = 0; minimum = 0; entries = [] })
+
+-- ---- send
+
+-- forward from H to a PDCP number
+abbrev pub fromHighest : {A : Type 0} → Ledger A → ℕ → ℕ
+fromHighest l p = forward (pdcps (l .bits)) (l .highest) p
+
+-- a PDCP number lies past the last sent
+abbrev pub pastLast : {A : Type 0} → Ledger A → ℕ → Bool
+pastLast l p = ltb (fromHighest l (l .sent)) (fromHighest l p)
+
+-- and less than half the PDCP numbers past H
+abbrev pub withinHalf : {A : Type 0} → Ledger A → ℕ → Bool
+withinHalf l p = ltb (fromHighest l p) (pdcps (l .bits) / 2)
+
+-- the PDCP order: both
+abbrev pub inOrder : {A : Type 0} → Ledger A → ℕ → Bool
+inOrder l p = pastLast l p and withinHalf l p
+
+-- the state after an accepted send
+abbrev pub sentState : {A : Type 0} → Ledger A → ℕ → A → Ledger A
+sentState l p a = record {
+    bits = l .bits;
+    next = (l .next + 1) % numbers (l .bits);
+    highest = l .highest;
+    sent = p;
+    closed = l .closed;
+    desired = l .desired;
+    minimum = l .minimum;
+    entries = l .entries ++ (record { number = l .next; pdcp = p; fate = waiting; label = a } ∷ [])
+  }
+
+-- send of a PDCP number: 9, 10, 35, 36, or the X2-U number given out
+abbrev pub send : {A : Type 0} → Ledger A → ℕ → A → After (Ledger A) ℕ
+send l p a =
+    if l .closed then record { answer = refused 9; state = l } else
+    if not (ltb p (pdcps (l .bits))) then record { answer = refused 10; state = l } else
+    if not (inOrder l p) then record { answer = refused 35; state = l } else
+    if leb mostEntries (length (l .entries)) then record { answer = refused 36; state = l } else
+    record { answer = done (l .next); state = sentState l p a }
+
+-- ---- accepting a status
+
+-- entries, and how many of them a pass changed or took out
+pub record Passed (A : Type 0) : Type 0 where
+  pub entries : List (Entry A)
+  pub count : ℕ
+
+-- an entry, lost
+abbrev pub asLost : {A : Type 0} → Entry A → Entry A
+asLost e = record { number = e .number; pdcp = e .pdcp; fate = lost; label = e .label }
+
+-- whether an entry waits
+abbrev pub waits : {A : Type 0} → Entry A → Bool
+waits e = elim (e .fate) [ waiting ↦ true | lost ↦ false ]
+
+-- an entry waits and bears the number
+abbrev pub bears : {A : Type 0} → Entry A → ℕ → Bool
+bears e n = waits e and eqb (e .number) n
+
+-- an entry in front of what a pass did behind it: lost and counted, or kept
+abbrev pub noteIn : {A : Type 0} → Bool → Entry A → Option (Passed A) → Option (Passed A)
+noteIn hit e none = none
+noteIn true e (some p) = some (record { entries = asLost e ∷ p .entries; count = p .count + 1 })
+noteIn false e (some p) = some (record { entries = e ∷ p .entries; count = p .count })
+
+-- what is left of the ranges when the first number of the first one is found
+abbrev pub afterNumber : ℕ → Range → List Range → List Range
+afterNumber L r rs = if eqb (r .start) (r .end) then rs else record { start = (r .start + 1) % numbers L; end = r .end } ∷ rs
+
+-- the ranges' numbers, one after another, become lost where they are found among the waiting entries, in sending order;
+-- none where a number isn't found so
+abbrev pub markLost : {A : Type 0} → ℕ → List (Entry A) → List Range → Option (Passed A)
+markLost L [] [] = some (record { entries = []; count = 0 })
+markLost L [] (r ∷ rs) = none
+markLost L (e ∷ es) [] = some (record { entries = e ∷ es; count = 0 })
+markLost L (e ∷ es) (r ∷ rs) = noteIn (bears e (r .start)) e (markLost L es (if bears e (r .start) then afterNumber L r rs else (r ∷ rs)))
+
+-- a waiting entry bears the PDCP number
+abbrev pub waitsFor : {A : Type 0} → ℕ → List (Entry A) → Bool
+waitsFor h [] = false
+waitsFor h (e ∷ es) = (waits e and eqb (e .pdcp) h) or waitsFor h es
+
+-- an entry kept, or one freed, in front of what a pass did behind it
+abbrev pub kept : {A : Type 0} → Entry A → Passed A → Passed A
+kept e p = record { entries = e ∷ p .entries; count = p .count }
+
+abbrev pub counted : {A : Type 0} → Passed A → Passed A
+counted p = record { entries = p .entries; count = p .count + 1 }
+
+-- every waiting entry from the oldest through the one whose PDCP number is h is freed and leaves
+abbrev pub freeThrough : {A : Type 0} → ℕ → List (Entry A) → Passed A
+freeThrough h [] = record { entries = []; count = 0 }
+freeThrough h (e ∷ es) =
+    if not (waits e) then kept e (freeThrough h es) else
+    if eqb (e .pdcp) h then record { entries = es; count = 1 } else
+    counted (freeThrough h es)
+
+-- a highest equal to H frees none
+abbrev pub freed : {A : Type 0} → Ledger A → ℕ → List (Entry A) → Passed A
+freed l h es = if eqb h (l .highest) then record { entries = es; count = 0 } else freeThrough h es
+
+-- how many were freed, how many became lost, and Final
+pub record Accepted : Type 0 where
+  pub freed : ℕ
+  pub lost : ℕ
+  pub final : Bool
+
+-- the state after an accepted status
+abbrev pub acceptedState : {A : Type 0} → Ledger A → Status → List (Entry A) → Ledger A
+acceptedState l s es = record {
+    bits = l .bits;
+    next = l .next;
+    highest = s .highest;
+    sent = l .sent;
+    closed = s .final;
+    desired = s .desired;
+    minimum = s .minimum;
+    entries = es
+  }
+
+-- the ranges are applied, or were 33: then 34, or what is freed
+abbrev pub acceptMarked : {A : Type 0} → Ledger A → Status → Option (Passed A) → After (Ledger A) Accepted
+acceptMarked l s none = record { answer = refused 33; state = l }
+acceptMarked l s (some m) =
+    if not (eqb (s .highest) (l .highest) or waitsFor (s .highest) (m .entries)) then record { answer = refused 34; state = l } else
+    record {
+      answer = done (record { freed = freed l (s .highest) (m .entries) .count; lost = m .count; final = s .final });
+      state = acceptedState l s (freed l (s .highest) (m .entries) .entries)
+    }
+
+-- a status of either form: 31, 32, and then its ranges and its highest
+abbrev pub acceptStatus : {A : Type 0} → Ledger A → Status → After (Ledger A) Accepted
+acceptStatus l s =
+    if not (alike (s .long) (isLong (l .bits))) then record { answer = refused 31; state = l } else
+    if leb (pdcps (l .bits)) (s .highest) then record { answer = refused 32; state = l } else
+    acceptMarked l s (markLost (l .bits) (l .entries) (s .ranges))
+
+-- what was read: its refusal, 31 for a data frame, or a status
+abbrev pub acceptReading : {A : Type 0} → Ledger A → Reading → After (Ledger A) Accepted
+acceptReading l (data-of long n) = record { answer = refused 31; state = l }
+acceptReading l (status-of s) = acceptStatus l s
+acceptReading l (refuse n) = record { answer = refused n; state = l }
+
+-- accepting any octets: 9, 1 to 6, 31, 32, 33, 34, or the counts
+abbrev pub accept : {A : Type 0} → Ledger A → List ℕ → After (Ledger A) Accepted
+accept l octets = if l .closed then record { answer = refused 9; state = l } else acceptReading l (readFrame octets)
+
+-- ---- take
+
+-- where the oldest lost entry stands; once closed the oldest of all; the length for none
+abbrev pub takeAt : {A : Type 0} → Bool → List (Entry A) → ℕ
+takeAt closed [] = 0
+takeAt closed (e ∷ es) = if closed or not (waits e) then 0 else suc (takeAt closed es)
+
+-- the two numbers of what was taken
+pub record Taken : Type 0 where
+  pub number : ℕ
+  pub pdcp : ℕ
+
+-- the entries from a place on: 38 for none, or the first of them, and the state without it
+abbrev pub takeFrom : {A : Type 0} → Ledger A → List (Entry A) → List (Entry A) → After (Ledger A) Taken
+takeFrom l front [] = record { answer = refused 38; state = l }
+takeFrom l front (e ∷ es) = record {
+    answer = done (record { number = e .number; pdcp = e .pdcp });
+    state = record {
+      bits = l .bits;
+      next = l .next;
+      highest = l .highest;
+      sent = l .sent;
+      closed = l .closed;
+      desired = l .desired;
+      minimum = l .minimum;
+      entries = front ++ es
+    }
+  }
+
+-- take: 38, or the two numbers
+abbrev pub takeOldest : {A : Type 0} → Ledger A → After (Ledger A) Taken
+takeOldest l = takeFrom l (take (takeAt (l .closed) (l .entries)) (l .entries)) (drop (takeAt (l .closed) (l .entries)) (l .entries))

@@ -1,0 +1,96 @@
+-- Where numbers lie as seen from base, and what is given up: definitions on lists of numbers of a circle of M, for the
+-- secondary's machine (Keeper.antt). Distances are forward from base. Every definition is total.
+-- Assumes nothing.
+use mathlib.Core.Bool.{Bool, true, false, not}
+use mathlib.Core.List.{List, [], _∷_, _++_, map}
+use Prim.Native.Nat.{ℕ, zero, suc, _+_, _-_, _*_, _/_, _%_, max}
+use lib.Dec.{ltb, leb, eqb}
+use lib.ListN.{drop}
+use Rattle.circle.specs.Circle.{forward}
+use Rattle.layout.specs.Basics.{if_then_else_, _and_, _or_, all}
+use Rattle.layout.specs.Frames.{Range}
+
+-- ---- where numbers lie
+
+-- a number that lies before base: half the circle forward from it, or more
+abbrev pub beforeBase : ℕ → ℕ → ℕ → Bool
+beforeBase M base n = leb (M / 2) (forward M base n)
+
+-- how far a number that lies before base is behind it; 0 for any other
+abbrev pub behind : ℕ → ℕ → ℕ → ℕ
+behind M base n = if beforeBase M base n then forward M n base else 0
+
+-- a number that lies c or more forward from base, and not before it
+abbrev pub fromOn : ℕ → ℕ → ℕ → ℕ → Bool
+fromOn M base c n = leb c (forward M base n) and not (beforeBase M base n)
+
+-- how many elements stand in front of the longest end of a list all of which has a property
+abbrev pub frontOf : {A : Type 0} → (A → Bool) → List A → ℕ
+frontOf p [] = 0
+frontOf p (x ∷ xs) = if all p (x ∷ xs) then 0 else suc (frontOf p xs)
+
+-- how far the first number of a list is behind base; 0 for none
+abbrev pub firstBehind : ℕ → ℕ → List ℕ → ℕ
+firstBehind M base [] = 0
+firstBehind M base (n ∷ ns) = behind M base n
+
+-- how far the last number of a list is forward from base; 0 for none, or for one before base
+abbrev pub topOf : ℕ → ℕ → List ℕ → ℕ
+topOf M base [] = 0
+topOf M base (n ∷ []) = if beforeBase M base n then 0 else forward M base n
+topOf M base (n ∷ m ∷ ns) = topOf M base (m ∷ ns)
+
+-- how far numbers are forward from base
+abbrev pub offsets : ℕ → ℕ → List ℕ → List ℕ
+offsets M base ns = map (forward M base) ns
+
+-- those at the end of a list that all lie at or past base
+abbrev pub fromBase : ℕ → ℕ → List ℕ → List ℕ
+fromBase M base ns = drop (frontOf (fromOn M base 0) ns) ns
+
+-- ---- gaps between records, by their distances from base
+
+-- the numbers from one distance up to, and without, another
+pub record Gap : Type 0 where
+  pub from : ℕ
+  pub to : ℕ
+
+-- the gap from c up to l, if it holds a number
+abbrev pub gap : ℕ → ℕ → List Gap
+gap c l = if ltb c l then record { from = c; to = l } ∷ [] else []
+
+-- a distance that is not from c up to l
+abbrev pub outside : ℕ → ℕ → ℕ → Bool
+outside c l o = ltb o c or leb l o
+
+-- the gaps below l that records at these distances leave, from c on
+abbrev pub gaps : ℕ → ℕ → List ℕ → List Gap
+gaps c l [] = gap c l
+gaps c l (o ∷ os) = (if outside c l o then [] else gap c o) ++ gaps (if outside c l o then c else suc o) l os
+
+-- how many numbers gaps hold
+abbrev pub sizeOf : List Gap → ℕ
+sizeOf [] = 0
+sizeOf (g ∷ gs) = (g .to - g .from) + sizeOf gs
+
+-- the lowest distance from c on at which there is no record
+abbrev pub lowest : ℕ → List ℕ → ℕ
+lowest c [] = c
+lowest c (o ∷ os) = lowest (if eqb o c then suc c else c) os
+
+-- ---- runs of lost numbers
+
+-- the numbers of a gap as a run
+abbrev pub runOf : ℕ → ℕ → Gap → Range
+runOf M base g = record { start = (base + g .from) % M; end = (base + (g .to - 1)) % M }
+
+-- runs in sending order and one more behind them: where it adjoins the last, the two are one run
+abbrev pub joined : ℕ → List Range → Range → List Range
+joined M [] r = r ∷ []
+joined M (x ∷ []) r = if eqb (forward M (x .end) (r .start)) 1 then record { start = x .start; end = r .end } ∷ [] else (x ∷ r ∷ [])
+joined M (x ∷ y ∷ ys) r = x ∷ joined M (y ∷ ys) r
+
+-- runs with new ones behind them: only the first of those can adjoin the last that was there
+abbrev pub withRuns : ℕ → List Range → List Range → List Range
+withRuns M runs [] = runs
+withRuns M runs (r ∷ rs) = joined M runs r ++ rs

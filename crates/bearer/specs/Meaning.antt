@@ -1,0 +1,114 @@
+-- What the secondary's machine means: every state that calls reach from open is as document 01 says, on packet indexes that
+-- never roll over (issue of the written rule: Rule.antt). The statement is `KeeperMeans`; it is proved in proofs/.
+-- Assumes nothing.
+use mathlib.Core.Path.{_≡_}
+use mathlib.Core.Bool.{Bool, true, false}
+use mathlib.Core.List.{List, [], _∷_, _++_, map}
+use Prim.Native.Nat.{ℕ, zero, suc, _+_, _-_, _*_, _%_, _≤_, _<_}
+use lib.ListN.{length, drop}
+use Rattle.circle.specs.Circle.{forward}
+use Rattle.layout.specs.Basics.{Outcome, done, refused}
+use Rattle.layout.specs.Frames.{Range}
+use Rattle.bearer.specs.Bearer.{numbers, half, mostRuns, mostRecords}
+use Rattle.bearer.specs.Losses.{Gap}
+use Rattle.bearer.specs.Keeper.{Keeper, Record, openKeeper, circle, arrive, expire, confirm, status}
+use Rattle.bearer.specs.Rule.{Fates, isIn, isOpen, arrival, expiry}
+use Rattle.bearer.specs.Demand3.{numberOf, Rising, inRanges}
+
+-- a packet with a record
+pub record Held : Type 0 where
+  pub index : ℕ
+  pub pdcp : ℕ
+  pub confirmed : Bool
+
+-- the record of a packet
+abbrev pub recordAt : ℕ → ℕ → Held → Record
+recordAt L first h = record { number = numberOf L first (h .index); pdcp = h .pdcp; confirmed = h .confirmed }
+
+-- the run of the packets from one up to, and without, another
+abbrev pub runAt : ℕ → ℕ → Gap → Range
+runAt L first g = record { start = numberOf L first (g .from); end = numberOf L first (g .to - 1) }
+
+-- the packets from one on, so many
+abbrev pub packetsFrom : ℕ → ℕ → List ℕ
+packetsFrom i zero = []
+packetsFrom i (suc c) = i ∷ packetsFrom (suc i) c
+
+-- the packets of gaps, in order
+abbrev pub packetsOf : List Gap → List ℕ
+packetsOf [] = []
+packetsOf (g ∷ gs) = packetsFrom (g .from) (g .to - g .from) ++ packetsOf gs
+
+-- runs in sending order, none empty, with at least one packet between each and the next: none could be joined
+abbrev pub Maximal : List Gap → Type 0
+Maximal [] = Unit
+Maximal (g ∷ []) = g .from < g .to
+Maximal (g ∷ h ∷ gs) = (g .from < g .to) × (g .to < h .from) × Maximal (h ∷ gs)
+
+-- a property of every element
+abbrev pub Each : {A : Type 0} → (A → Type 0) → List A → Type 0
+Each P [] = Unit
+Each P (x ∷ xs) = P x × Each P xs
+
+-- the packets of records
+abbrev pub indexes : List Held → List ℕ
+indexes hs = map (λ (h : Held). h .index) hs
+
+-- a packet is the lowest open one
+pub record Lowest (r : Fates) (i : ℕ) : Type 0 where
+  pub open-itself : isOpen r i ≡ true
+  pub none-below : (j : ℕ) → j < i → isOpen r j ≡ false
+
+-- What a state means: r is what became of each packet by our rule, and told of the lost were reported.
+pub record Means (L first : ℕ) (k : Keeper) (r : Fates) (told : ℕ) : Type 0 where
+  pub base : ℕ
+  pub runs : List Gap
+  pub records : List Held
+  -- the bearer's L
+  pub same-length : k .bits ≡ L
+  -- "Base is the lowest open number."
+  pub lowest : Lowest r base
+  pub base-is : k .base ≡ numberOf L first base
+  -- "Each number from the first on is open, received or lost", never two of them
+  pub not-both : (i : ℕ) → isIn i (r .received) ≡ true → isIn i (r .lost) ≡ false
+  -- the lost were declared in sending order, each once
+  pub lost-rising : Rising (r .lost)
+  -- "Listed runs are the maximal runs of lost, unreported numbers, in sending order. Adjacent numbers join."
+  pub runs-are : k .runs ≡ map (runAt L first) runs
+  pub runs-hold : packetsOf runs ≡ drop told (r .lost)
+  pub told-most : told ≤ length (r .lost)
+  pub runs-maximal : Maximal runs
+  -- records are in sending order and distinct, each of a received packet; each received packet from base on has one
+  pub records-are : k .records ≡ map (recordAt L first) records
+  pub records-rising : Rising (indexes records)
+  pub records-received : Each (λ (h : Held). isIn (h .index) (r .received) ≡ true) records
+  pub from-base : (i : ℕ) → base ≤ i → isIn i (r .received) ≡ true → isIn i (indexes records) ≡ true
+  -- "only records before base are confirmed"
+  pub confirmed-before : Each (λ (h : Held). h .confirmed ≡ true → h .index < base) records
+  -- no number with a record is 256 or more past base
+  pub within-window : Each (λ (h : Held). h .index < base + 256) records
+  -- the stores' limits
+  pub most-runs : length runs ≤ mostRuns
+  pub most-records : length records ≤ mostRecords
+  -- floor to base is at most M/2
+  pub floor-runs : Each (λ (g : Gap). base ≤ g .from + half L) runs
+  pub floor-records : Each (λ (h : Held). base ≤ h .index + half L) records
+
+-- A state that calls reach from open, with what our rule says of the packets, and how many of the lost were reported. An
+-- accepted arrival d forward from base is of the packet d past the lowest open one. Refused calls leave the state (the
+-- machine says so), so they are no steps here.
+pub data Reached (L first f : ℕ) : Keeper → Fates → ℕ → Type 0 where
+  opened : {k : Keeper} → openKeeper L first f ≡ done k → Reached L first f k (record { received = []; lost = [] }) 0
+  arrived : {k : Keeper} {r : Fates} {told : ℕ} (n p c base : ℕ) → Reached L first f k r told → Lowest r base → arrive k n p .answer ≡ done c
+    → Reached L first f (arrive k n p .state) (arrival r (base + forward (circle k) (k .base) n)) told
+  expired : {k : Keeper} {r : Fates} {told : ℕ} (c : ℕ) → Reached L first f k r told → expire k .answer ≡ done c
+    → Reached L first f (expire k .state) (expiry r) told
+  confirmed : {k : Keeper} {r : Fates} {told : ℕ} (n : ℕ) → Reached L first f k r told → confirm k n .answer ≡ done tt
+    → Reached L first f (confirm k n .state) r told
+  reported : {k : Keeper} {r : Fates} {told : ℕ} (d m : ℕ) (final : Bool) (buffer : List ℕ) (c : ℕ) → Reached L first f k r told
+    → status k d m final buffer .answer ≡ done c
+    → Reached L first f (status k d m final buffer .state) r (told + length (inRanges L (Rattle.bearer.specs.Keeper.statusNow k d m final .ranges)))
+
+-- the statement
+abbrev pub KeeperMeans : Type 0
+KeeperMeans = (L first f : ℕ) (k : Keeper) (r : Fates) (told : ℕ) → Reached L first f k r told → Means L first k r told

@@ -1,0 +1,59 @@
+-- The secondary's rule in document 01's own sentences, on packet indexes: packet 0 is the first one sent, 1 the next, and
+-- indexes never roll over. No definition of the machines is used here.
+-- Assumes nothing.
+use mathlib.Core.Bool.{Bool, true, false, not}
+use mathlib.Core.List.{List, [], _∷_, _++_}
+use Prim.Native.Nat.{ℕ, zero, suc, _+_, _-_, max}
+use lib.Dec.{eqb}
+use Rattle.layout.specs.Basics.{if_then_else_, _and_, _or_}
+use Rattle.bearer.specs.Bearer.{window}
+
+-- "Each number from the first on is open, received or lost": the received, and the lost in the order they were declared
+pub record Fates : Type 0 where
+  pub received : List ℕ
+  pub lost : List ℕ
+
+-- a packet is in a list
+abbrev pub isIn : ℕ → List ℕ → Bool
+isIn i [] = false
+isIn i (x ∷ xs) = eqb i x or isIn i xs
+
+-- neither received nor lost
+abbrev pub isOpen : Fates → ℕ → Bool
+isOpen r i = not (isIn i (r .received)) and not (isIn i (r .lost))
+
+-- the packets below n, in sending order
+abbrev pub below : ℕ → List ℕ
+below zero = []
+below (suc n) = below n ++ (n ∷ [])
+
+-- those of a list that have a property
+abbrev pub only : (ℕ → Bool) → List ℕ → List ℕ
+only p [] = []
+only p (x ∷ xs) = if p x then x ∷ only p xs else only p xs
+
+-- the open packets below n
+abbrev pub openBelow : Fates → ℕ → List ℕ
+openBelow r n = only (isOpen r) (below n)
+
+-- each open packet below n is declared lost
+abbrev pub declare : Fates → ℕ → Fates
+declare r n = record { received = r .received; lost = r .lost ++ openBelow r n }
+
+-- a packet is received
+abbrev pub receive : Fates → ℕ → Fates
+receive r i = record { received = i ∷ r .received; lost = r .lost }
+
+-- "Arrival adds a record, then declares lost each open number that is 256 or more below the arrival." A packet that is
+-- received or lost already stays what it is.
+abbrev pub arrival : Fates → ℕ → Fates
+arrival r i = if isOpen r i then declare (receive r i) (suc i - window) else r
+
+-- the highest accepted packet; 0 for none, below which there is no packet
+abbrev pub highest : List ℕ → ℕ
+highest [] = 0
+highest (i ∷ is) = max i (highest is)
+
+-- "Expiry declares lost each open number below the highest accepted one."
+abbrev pub expiry : Fates → Fates
+expiry r = declare r (highest (r .received))

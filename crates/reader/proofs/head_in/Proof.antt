@@ -1,0 +1,48 @@
+-- `head_in`: each field is the one at its place, by the contract of what reads it. Assumes nothing.
+use borrow.Author.Needs.{needs}
+use Rattle.reader.proofs.head_in.Statement.{statement}
+use Rattle.reader.proofs.head_in.Tie as tie
+
+width-of-requires : tie.Need-width-of-requires
+width-of-requires c κs = search needs
+
+final-in-requires : tie.Need-final-in-requires
+final-in-requires c κs = search needs
+
+number-at-requires : tie.Need-number-at-requires
+number-at-requires c κs = search needs
+
+add-join4 : tie.Need-add-join4
+add-join4 c = search needs
+
+join4-requires : tie.Need-join4-requires
+join4-requires c κs = search needs
+
+add-join4-2 : tie.Need-add-join4-2
+add-join4-2 c = search needs
+
+join4-requires-2 : tie.Need-join4-requires-2
+join4-requires-2 c κs = search needs
+
+count-in-requires : tie.Need-count-in-requires
+count-in-requires c κs = search needs
+
+returns : tie.Need-returns
+returns c =
+    let d = c .before .before .before in
+    rw (d .before .final-in .ensures, d .number-at .ensures, c .before .before .join4 .ensures, c .before .join42 .ensures)
+    (rw (c .count-in .ensures .0, d .before .before .width-of .ensures .0))
+
+pub head-in-spec : {M : Type 1} → statement M
+head-in-spec =
+    tie.close
+    (tie.spec
+    width-of-requires
+    final-in-requires
+    number-at-requires
+    add-join4
+    join4-requires
+    add-join4-2
+    join4-requires-2
+    count-in-requires
+    returns)

@@ -1,0 +1,77 @@
+-- `read_status`: each refusal is given where its test holds and no earlier one did. Assumes nothing.
+use mathlib.Core.Bool.{false}
+use mathlib.Core.Path.{_≡_, sym, _∙_}
+use borrow.Author.Needs.{needs}
+use borrow.Author.Tests.{lt-ltb, le-ltb}
+use lib.Dec.{ltb, eqb}
+use lib.ListN.{length}
+use Rattle.layout.specs.Basics.{_and_, _or_}
+use Rattle.layout.specs.Octets.{field}
+use Rattle.layout.specs.Frames.{width, mostHighest, mostRanges, fixedEnd, listedIn, countIn}
+use Rattle.reader.proofs.read_status.Statement.{statement}
+use Rattle.reader.proofs.read_status.Tie as tie
+
+-- what is known behind each test that refuses
+not-3 : (c : tie.Else1) → let a = c .before .before .before .args in ltb (length (a .s .now)) (fixedEnd (a .s .now) (width (a .long))) ≡ false
+not-3 c = rw (← c .before .fixed-end .ensures .0) (le-ltb _ _ (c .if1 .left))
+
+not-4 : (c : tie.Else2) → let a = c .before .before .before .before .before .before .args in ltb (mostHighest (a .long)) (field (a .s .now) 1 (width (a .long))) ≡ false
+not-4 c = rw (← c .before .before .number-at .ensures, ← c .before .most-highest .ensures) (le-ltb _ _ (c .if2 .left))
+
+not-5 : (c : tie.Else3)
+    → let a = c .before .before .before .before .before .before .before .before .args in
+    (listedIn (a .s .now) and (eqb (countIn (a .s .now) (width (a .long))) 0 or ltb mostRanges (countIn (a .s .now) (width (a .long))))) ≡ false
+not-5 c = sym (c .before .bad-count .ensures) ∙ c .if3 .left
+
+fixed-end-requires : tie.Need-fixed-end-requires
+fixed-end-requires c κs = search needs
+
+returns : tie.Need-returns
+returns c = rw (← c .before .fixed-end .ensures .0, lt-ltb _ _ (c .if1 .taken))
+
+number-at-requires : tie.Need-number-at-requires
+number-at-requires c κs = search needs
+
+most-highest-requires : tie.Need-most-highest-requires
+most-highest-requires c κs = search needs
+
+returns-2 : tie.Need-returns-2
+returns-2 c = rw (not-3 (c .before .before .before), ← c .before .before .number-at .ensures, ← c .before .most-highest .ensures, lt-ltb _ _ (c .if2 .taken))
+
+bad-count-requires : tie.Need-bad-count-requires
+bad-count-requires c κs = search needs
+
+returns-3 : tie.Need-returns-3
+returns-3 c = rw (not-3 (c .before .before .before .before .before), not-4 (c .before .before), sym (c .before .bad-count .ensures) ∙ c .if3 .taken)
+
+list-end-requires : tie.Need-list-end-requires
+list-end-requires c κs = search needs
+
+returns-4 : tie.Need-returns-4
+returns-4 c =
+    let d = c .before .before in
+    rw (not-3 (d .before .before .before .before .before), not-4 (d .before .before), not-5 d, ← c .before .list-end .ensures, lt-ltb _ _ (c .if4 .taken))
+
+head-in-requires : tie.Need-head-in-requires
+head-in-requires c κs = search needs
+
+returns-5 : tie.Need-returns-5
+returns-5 c =
+    let d = c .before .before .before in
+    rw (not-3 (d .before .before .before .before .before), not-4 (d .before .before), not-5 d, ← c .before .before .list-end .ensures, le-ltb _ _ (c .before .if4 .left)) (c .head-in .ensures)
+
+pub read-status-spec : {M : Type 1} → statement M
+read-status-spec =
+    tie.close
+    (tie.spec
+    fixed-end-requires
+    returns
+    number-at-requires
+    most-highest-requires
+    returns-2
+    bad-count-requires
+    returns-3
+    list-end-requires
+    returns-4
+    head-in-requires
+    returns-5)

@@ -1,0 +1,312 @@
+// Reading X2-U frames of types 0 to 3 (TS 36.425 V15.0.0, 5.5). Nothing is copied: a status's ranges are
+// reached one after another over the caller's frame.
+ghost use mathlib.Core.Path.{_≡_};
+ghost use Prim.Native.Nat.{_+_, _*_, _≤_, _<_};
+ghost use lib.Dec.{ltb, eqb};
+ghost use lib.ListN.{length};
+ghost use Rattle.layout.specs.Basics.{_and_, _or_};
+ghost use Rattle.layout.specs.Octets.{field};
+ghost use Rattle.layout.specs.Frames.{width, mostHighest, mostRanges, typeIn, finalIn, listedIn, countIn, fixedEnd, listEnd, statusIn, badLength};
+ghost use Rattle.layout.specs.Frames.{status-of, readStatus, readType, readFrame};
+ghost use Rattle.reader.specs.Answers.{readingOf, cursorOf, nextIn};
+
+const MOST_OCTETS: usize = 1018; // the greatest length of a frame
+
+const MOST_RANGES: u32 = 162; // the most ranges that a status carries
+
+// What a status says before its list, and how many ranges the list has.
+pub struct Head {
+    pub long: bool,
+    pub last: bool,
+    pub highest: u32,
+    pub desired: u32,
+    pub minimum: u32,
+    pub count: u32,
+}
+
+// What was read.
+pub enum Frame {
+    Data { long: bool, number: u32 },
+    Status(Head),
+    Refused(u32),
+}
+
+// A place in a status's list: where the next range stands, and how many are left.
+pub struct Cursor {
+    pub long: bool,
+    pub place: usize,
+    pub left: u32,
+}
+
+// The next range and the cursor behind it, or that none is left.
+pub enum Step {
+    Range { start: u32, end: u32, rest: Cursor },
+    End,
+}
+
+// ---- numbers out of octets
+
+// A number with one octet more behind it.
+fn with_octet(n: u32, octet: u8) -> u32
+    requires { ⌜ n < 16777216 ⌝ }
+    ensures { λ r. ⌜ (r ≡ n * 256 + octet) × (r < n * 256 + 256) ⌝ }
+{
+    (n << 8) | (octet as u32)
+}
+
+// The number in 2 octets from place i on.
+fn join2(s: &[u8], i: usize) -> u32
+    requires { ⌜ i + 2 ≤ length (now s) ⌝ }
+    ensures { λ r. ⌜ (r ≡ field (now (s .entry)) i 2) × (r < 65536) ⌝ }
+{
+    let high = s[i];
+    let low = s[i + 1];
+    with_octet(with_octet(0, high), low)
+}
+
+// The number in 3 octets from place i on.
+fn join3(s: &[u8], i: usize) -> u32
+    requires { ⌜ i + 3 ≤ length (now s) ⌝ }
+    ensures { λ r. ⌜ (r ≡ field (now (s .entry)) i 3) × (r < 16777216) ⌝ }
+{
+    with_octet(join2(s, i), s[i + 2])
+}
+
+// The number in 4 octets from place i on.
+fn join4(s: &[u8], i: usize) -> u32
+    requires { ⌜ i + 4 ≤ length (now s) ⌝ }
+    ensures { λ r. ⌜ r ≡ field (now (s .entry)) i 4 ⌝ }
+{
+    with_octet(join3(s, i), s[i + 3])
+}
+
+// ---- what the forms differ in
+
+// How many octets an X2-U number or the highest PDCP number takes.
+fn width_of(long: bool) -> usize
+    ensures { λ r. ⌜ (r ≡ width long) × (2 ≤ r) × (r ≤ 3) ⌝ }
+{
+    if long { 3 } else { 2 }
+}
+
+// The greatest highest PDCP number that a status may bear.
+fn most_highest(long: bool) -> u32
+    ensures { λ r. ⌜ r ≡ mostHighest long ⌝ }
+{
+    if long { 262143 } else { 32767 }
+}
+
+// The number of a form from place i on.
+fn number_at(s: &[u8], i: usize, long: bool) -> u32
+    requires { ⌜ i + width long ≤ length (now s) ⌝ }
+    ensures { λ r. ⌜ r ≡ field (now (s .entry)) i (width long) ⌝ }
+{
+    if long { join3(s, i) } else { join2(s, i) }
+}
+
+// ---- the first octet, whose spare bits are never looked at
+
+// The type, in bits 7 to 4.
+fn type_in(s: &[u8]) -> u8
+    requires { ⌜ 0 < length (now s) ⌝ }
+    ensures { λ r. ⌜ r ≡ typeIn (now (s .entry)) ⌝ }
+{
+    s[0] >> 4
+}
+
+// Final, in bit 1.
+fn final_in(s: &[u8]) -> bool
+    requires { ⌜ 0 < length (now s) ⌝ }
+    ensures { λ r. ⌜ r ≡ finalIn (now (s .entry)) ⌝ }
+{
+    (s[0] >> 1) & 1 == 1
+}
+
+// Whether there is a list, in bit 0.
+fn listed_in(s: &[u8]) -> bool
+    requires { ⌜ 0 < length (now s) ⌝ }
+    ensures { λ r. ⌜ r ≡ listedIn (now (s .entry)) ⌝ }
+{
+    s[0] & 1 == 1
+}
+
+// ---- the parts of a status
+
+// Where the last fixed field ends, the count octet included if there is a list.
+fn fixed_end(s: &[u8], long: bool) -> usize
+    requires { ⌜ 0 < length (now s) ⌝ }
+    ensures { λ r. ⌜ (r ≡ fixedEnd (now (s .entry)) (width long)) × (9 + width long ≤ r) × (r ≤ 13) ⌝ }
+{
+    if listed_in(s) {
+        10 + width_of(long)
+    } else {
+        9 + width_of(long)
+    }
+}
+
+// How many ranges a status announces: 0 without a list.
+fn count_in(s: &[u8], long: bool) -> u32
+    requires { ⌜ (0 < length (now s)) × (fixedEnd (now s) (width long) ≤ length (now s)) ⌝ }
+    ensures { λ r. ⌜ (r ≡ countIn (now (s .entry)) (width long)) × (r < 256) ⌝ }
+{
+    if listed_in(s) {
+        let i = 9 + width_of(long);
+        s[i] as u32
+    } else {
+        0
+    }
+}
+
+// Whether there is a list whose count no list has.
+fn bad_count(s: &[u8], long: bool) -> bool
+    requires { ⌜ (0 < length (now s)) × (fixedEnd (now s) (width long) ≤ length (now s)) ⌝ }
+    ensures { λ r. ⌜ r ≡ (listedIn (now (s .entry)) and (eqb (countIn (now (s .entry)) (width long)) 0 or ltb mostRanges (countIn (now (s .entry)) (width long)))) ⌝ }
+{
+    if listed_in(s) {
+        let count = count_in(s, long);
+        count == 0 || MOST_RANGES < count
+    } else {
+        false
+    }
+}
+
+// Where the list ends.
+fn list_end(s: &[u8], long: bool) -> usize
+    requires { ⌜ (0 < length (now s)) × (fixedEnd (now s) (width long) ≤ length (now s)) ⌝ }
+    ensures { λ r. ⌜ r ≡ listEnd (now (s .entry)) (width long) ⌝ }
+{
+    let count = count_in(s, long) as usize;
+    fixed_end(s, long) + count * (2 * width_of(long))
+}
+
+// What a status says before its list, and the count.
+fn head_in(s: &[u8], long: bool) -> Head
+    requires { ⌜ (9 + width long ≤ length (now s)) × (fixedEnd (now s) (width long) ≤ length (now s)) ⌝ }
+    ensures { λ r. ⌜ readingOf (now (s .entry)) (Frame.Status r) ≡ status-of (statusIn long (now (s .entry))) ⌝ }
+{
+    let w = width_of(long);
+    Head {
+        long: long,
+        last: final_in(s),
+        highest: number_at(s, 1, long),
+        desired: join4(s, 1 + w),
+        minimum: join4(s, 5 + w),
+        count: count_in(s, long),
+    }
+}
+
+// ---- reading
+
+// Whether no frame has this length.
+fn bad_length(n: usize) -> bool
+    ensures { λ r. ⌜ r ≡ badLength n ⌝ }
+{
+    if n < 6 {
+        return true;
+    }
+    if MOST_OCTETS < n {
+        return true;
+    }
+    n % 4 != 2
+}
+
+// Types 1 and 2, of a length that a frame has.
+fn read_status(s: &[u8], long: bool) -> Frame
+    requires { ⌜ 6 ≤ length (now s) ⌝ }
+    ensures { λ r. ⌜ readingOf (now (s .entry)) r ≡ readStatus long (now (s .entry)) ⌝ }
+{
+    let fixed = fixed_end(s, long);
+    if s.len() < fixed {
+        return Frame::Refused(refusal::FIXED_PART);
+    }
+    let highest = number_at(s, 1, long);
+    let most = most_highest(long);
+    if most < highest {
+        return Frame::Refused(refusal::HIGHEST);
+    }
+    if bad_count(s, long) {
+        return Frame::Refused(refusal::COUNT);
+    }
+    let end = list_end(s, long);
+    if s.len() < end {
+        return Frame::Refused(refusal::LIST);
+    }
+    Frame::Status(head_in(s, long))
+}
+
+// By the type, octets of a length that a frame has.
+fn read_type(s: &[u8], kind: u8) -> Frame
+    requires { ⌜ 6 ≤ length (now s) ⌝ }
+    ensures { λ r. ⌜ readingOf (now (s .entry)) r ≡ readType kind (now (s .entry)) ⌝ }
+{
+    match kind {
+        0 => Frame::Data {
+            long: false,
+            number: join2(s, 1),
+        },
+        1 => read_status(s, false),
+        2 => read_status(s, true),
+        3 => Frame::Data {
+            long: true,
+            number: join3(s, 1),
+        },
+        4..=15 => Frame::Refused(refusal::RESERVED),
+        // Four bits hold no more than 15.
+        _ => Frame::Refused(refusal::RESERVED),
+    }
+}
+
+// Reads any octets.
+pub fn read(frame: &[u8]) -> Frame
+    ensures { λ r. ⌜ readingOf (now (frame .entry)) r ≡ readFrame (now (frame .entry)) ⌝ }
+{
+    let n = frame.len();
+    if bad_length(n) {
+        return Frame::Refused(refusal::LENGTH);
+    }
+    read_type(frame, type_in(frame))
+}
+
+// ---- the walk over a status's ranges
+
+// The cursor before a status's first range.
+pub fn first_range(head: Head) -> Cursor
+    ensures { λ r. ⌜ r ≡ cursorOf head ⌝ }
+{
+    let long = head.long;
+    Cursor {
+        long: long,
+        place: 10 + width_of(long),
+        left: head.count,
+    }
+}
+
+// The range at a cursor.
+pub fn next_range(frame: &[u8], at: Cursor) -> Step
+    ensures { λ r. ⌜ r ≡ nextIn (now (frame .entry)) at ⌝ }
+{
+    let long = at.long;
+    let place = at.place;
+    let left = at.left;
+    if left == 0 {
+        return Step::End;
+    }
+    let n = frame.len();
+    let w = width_of(long);
+    // A place may be any number, so a range is taken off the length and not added to the place.
+    if n < 2 * w {
+        return Step::End;
+    }
+    if n - 2 * w < place {
+        return Step::End;
+    }
+    Step::Range {
+        start: number_at(frame, place, long),
+        end: number_at(frame, place + w, long),
+        rest: Cursor {
+            long: long,
+            place: place + 2 * w,
+            left: left - 1,
+        },
+    }
+}

@@ -1,0 +1,6 @@
+pub mod Joined
+pub mod Laying
+pub mod Lengths
+pub mod Placed
+pub mod Ranges
+pub mod Unique
