@@ -21,7 +21,7 @@ use Rattle.bearer.proofs.Lists.{contrary, in-left, in-right, in-append,
 use Rattle.bearer.proofs.Members.{order, not-in}
 use Rattle.bearer.proofs.Marks.{waitingOf, Names}
 use Rattle.bearer.proofs.Pdcps.{pdcpOf}
-use Rattle.bearer.proofs.Accepts.{Highest, stays, moves-to, Took, takes, waiting-sent}
+use Rattle.bearer.proofs.Accepts.{Highest, stays, moves-to, Took, takes}
 use Rattle.bearer.proofs.Flight.{Mark, Lifted, same, up, Says, Flight, all-there, then}
 use Rattle.bearer.proofs.Joint.{Second, First, Joint, secondMark, masterMark}
 

@@ -21,6 +21,7 @@ use Rattle.bearer.proofs.Lists.{contrary, and-true}
 use Rattle.bearer.proofs.Members.{in-none, passed, done-one}
 use Rattle.bearer.proofs.Follows.{follows-start}
 use Rattle.bearer.proofs.Lengths.{Roomy, roomy}
+use Rattle.bearer.proofs.Applied.{master-opened}
 use Rattle.bearer.proofs.Flight.{all-there}
 use Rattle.bearer.proofs.Joint.{Joint, joint-reported, joint-freed}
 use Rattle.bearer.proofs.Delivery.{joint-accepts, joint-deliver}
@@ -73,22 +74,7 @@ module _ (L first f : ℕ) where
           above-cut = λ x p. absurd (in-none p)
         };
         there = record {
-          master = record {
-            bits-are = refl;
-            next-is = first-number h;
-            entries-are = record { rising = tt; numbered = tt; pdcps-are = tt; were-sent = tt; from-cut = tt };
-            ordered = record {
-              below = λ i l. absurd (omega arith);
-              up = λ i j a b l. absurd (omega arith);
-              past = λ i a l. absurd (omega arith);
-              cut-sent = omega arith;
-              last-none = λ e. refl;
-              last-is = λ l. absurd (omega arith);
-              last-near = λ l. absurd (omega arith)
-            };
-            highest-fits = fits;
-            most = omega arith
-          };
+          master = master-opened L first f ok h;
           above = λ x p. absurd (in-none p);
           waiting-only = λ c x p. refl;
           waiting-all = λ c x a l n. absurd (omega arith);

@@ -1,7 +1,7 @@
 -- What the master's two passes leave, by packets: the named waiting packets are lost, then every waiting packet through the highest's is
 -- freed; nothing else changes.
 -- Assumes nothing.
-use mathlib.Core.Path.{_≡_, refl, sym, _∙_, ap}
+use mathlib.Core.Path.{_≡_, refl, sym, _∙_}
 use mathlib.Core.Bool.{Bool, true, false, not}
 use mathlib.Core.List.{List, [], _∷_, _++_, map}
 use mathlib.Core.Logic.{_⊎_, inl, inr, ⊎-elim}
@@ -82,24 +82,6 @@ each-left P g (e ∷ es) a = go (goes g e) (each-left P g es (a .1))
     go : (b : Bool) → Each P (leftOver g es) → Each P (if b then leftOver g es else (e ∷ leftOver g es))
     go true r = r
     go false r = (a .0, r)
-
--- what holds of every entry, lost or not, holds of every one marked
-pub each-marked : (P : Entry ℕ → Type 0) (xs : List ℕ) (es : List (Entry ℕ)) → ((e : Entry ℕ) → P e → P (asLost e)) → Each P es → Each P (marked xs es)
-each-marked P xs [] f a = tt
-each-marked P xs (e ∷ es) f a = (go (isNamed xs e), each-marked P xs es f (a .1))
-  where
-    go : (b : Bool) → P (if b then asLost e else e)
-    go true = f e (a .0)
-    go false = a .0
-
--- marking changes no packet
-pub packets-marked : (xs : List ℕ) (es : List (Entry ℕ)) → packets (marked xs es) ≡ packets es
-packets-marked xs [] = refl
-packets-marked xs (e ∷ es) = go (isNamed xs e) (packets-marked xs es)
-  where
-    go : (b : Bool) → packets (marked xs es) ≡ packets es → packets ((if b then asLost e else e) ∷ marked xs es) ≡ e .label ∷ packets es
-    go true r = ap (λ (l : List ℕ). e .label ∷ l) r
-    go false r = ap (λ (l : List ℕ). e .label ∷ l) r
 
 -- what is left was there
 pub left-there : (x g : ℕ) (es : List (Entry ℕ)) → In x (packets (leftOver g es)) → In x (packets es)

@@ -36,3 +36,8 @@ pub mod Growth
 pub mod Arriving
 pub mod Demand3
 pub mod KeeperMeans
+pub mod Turned
+pub mod Applied
+pub mod AcceptsAny
+pub mod LedgerMeans
+pub mod Labels

@@ -2,15 +2,15 @@
 -- Assumes nothing.
 use mathlib.Core.Path.{_≡_, refl, sym, _∙_, ap}
 use mathlib.Core.Bool.{Bool, true, false, not}
-use mathlib.Core.List.{List, [], _∷_}
+use mathlib.Core.List.{List, [], _∷_, _++_}
 use mathlib.Core.Option.{Option, none, some}
 use mathlib.Core.Logic.{_⊎_, inl, inr, ⊎-elim}
 use Prim.Native.Nat.{ℕ, _+_, _/_}
 use lib.Dec.{eqb, leb, ltb}
-use lib.ListN.{length, getD}
+use lib.ListN.{length, getD, take, drop}
 use Rattle.circle.specs.Circle.{forward}
-use Rattle.layout.specs.Basics.{if_then_else_, _and_, _or_, alike, Outcome, done, refused}
-use Rattle.layout.specs.Frames.{Status, Reading, data-of, status-of, refuse, readFrame}
+use Rattle.layout.specs.Basics.{if_then_else_, _and_, _or_, alike, Outcome, done, refused, all}
+use Rattle.layout.specs.Frames.{Status, Reading, data-of, status-of, refuse, readFrame, unwritten, place, writeData, writeStatus, dataOctets, statusOctets, modulus, mostHighest, mostRanges, inForm}
 use Rattle.bearer.specs.Bearer.{After, isLong, pdcps, mostRuns, mostRecords, mostEntries}
 use Rattle.bearer.specs.Losses.{beforeBase, topOf}
 use Rattle.bearer.specs.Keeper as K
@@ -93,3 +93,59 @@ confirm-keeps k n =
     either-keeps k (k .closed) _ _ (refusal-keeps _ k 9)
     (either-keeps k (not (ltb n (K.circle k))) _ _ (refusal-keeps _ k 10)
     (either-keeps k (leb (length (K.held k)) (K.indexOf n (K.held k))) _ _ (refusal-keeps _ k 16) (confirm-at-keeps k n (K.indexOf n (K.held k)))))
+
+-- ---- the writer, and the status that writes through it
+
+-- a frame is at the front of the buffer, or the buffer is as it was
+place-keeps : (frame d : List ℕ) → isDone (place frame d .answer) ≡ false → place frame d .buffer ≡ d
+place-keeps frame d = go (ltb (length d) (length frame))
+  where
+    go : (b : Bool) → isDone ((if b then unwritten 20 d else record { answer = done (length frame); buffer = frame ++ drop (length frame) d }) .answer) ≡ false
+        → (if b then unwritten 20 d else record { answer = done (length frame); buffer = frame ++ drop (length frame) d }) .buffer ≡ d
+    go true e = refl
+    go false e = absurd (contrary refl e)
+
+-- a refused write changes no octet
+pub write-keeps : (s : Status) (d : List ℕ) → isDone (writeStatus s d .answer) ≡ false → writeStatus s d .buffer ≡ d
+write-keeps s d = go (ltb (mostHighest (s .long)) (s .highest)) (ltb mostRanges (length (s .ranges))) (all (inForm (s .long)) (s .ranges))
+  where
+    go : (a b c : Bool) → isDone ((if a then unwritten 4 d else if b then unwritten 5 d else if c then place (statusOctets s) d else unwritten 10 d) .answer) ≡ false
+        → (if a then unwritten 4 d else if b then unwritten 5 d else if c then place (statusOctets s) d else unwritten 10 d) .buffer ≡ d
+    go true b c e = refl
+    go false true c e = refl
+    go false false true e = place-keeps (statusOctets s) d e
+    go false false false e = refl
+
+pub write-data-keeps : (long : Bool) (n : ℕ) (d : List ℕ) → isDone (writeData long n d .answer) ≡ false → writeData long n d .buffer ≡ d
+write-data-keeps long n d = go (ltb n (modulus long))
+  where
+    go : (b : Bool) → isDone ((if b then place (dataOctets long n) d else unwritten 10 d) .answer) ≡ false → (if b then place (dataOctets long n) d else unwritten 10 d) .buffer ≡ d
+    go true e = place-keeps (dataOctets long n) d e
+    go false e = refl
+
+-- a refused status changes neither state nor buffer
+pub status-keeps : (k : K.Keeper) (desired minimum : ℕ) (final : Bool) (d : List ℕ) → isDone (K.status k desired minimum final d .answer) ≡ false
+    → (K.status k desired minimum final d .state ≡ k) × (K.status k desired minimum final d .buffer ≡ d)
+status-keeps k desired minimum final d =
+    go (k .closed) (final and ltb mostRanges (length (k .runs))) (K.reportedAs k final (writeStatus (K.statusNow k desired minimum final) d))
+    (λ e. (by (writeStatus (K.statusNow k desired minimum final) d .answer) e, write-keeps (K.statusNow k desired minimum final) d e))
+  where
+    by : (o : Outcome ℕ) → isDone o ≡ false → K.stateBy k final o ≡ k
+    by (done n) e = absurd (contrary refl e)
+    by (refused n) e = refl
+    go : (a b : Bool) (x : K.Reported) → (isDone (x .answer) ≡ false → (x .state ≡ k) × (x .buffer ≡ d))
+        → isDone ((if a then record { answer = refused 9; state = k; buffer = d } else if b then record { answer = refused 22; state = k; buffer = d } else x) .answer) ≡ false
+        → ((if a then record { answer = refused 9; state = k; buffer = d } else if b then record { answer = refused 22; state = k; buffer = d } else x) .state ≡ k)
+        × ((if a then record { answer = refused 9; state = k; buffer = d } else if b then record { answer = refused 22; state = k; buffer = d } else x) .buffer ≡ d)
+    go true b x f e = (refl, refl)
+    go false true x f e = (refl, refl)
+    go false false x f e = f e
+
+-- ---- take
+
+take-from-keeps : {A : Type 0} (l : G.Ledger A) (front rest : List (G.Entry A)) → Keeps l (G.takeFrom l front rest)
+take-from-keeps l front [] = refusal-keeps _ l 38
+take-from-keeps l front (e ∷ es) = answer-keeps l _ _
+
+pub take-keeps : {A : Type 0} (l : G.Ledger A) → Keeps l (G.takeOldest l)
+take-keeps l = take-from-keeps l (take (G.takeAt (l .closed) (l .entries)) (l .entries)) (drop (G.takeAt (l .closed) (l .entries)) (l .entries))

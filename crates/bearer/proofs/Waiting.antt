@@ -17,16 +17,17 @@ use Rattle.bearer.specs.Losses.{Gap}
 use Rattle.bearer.specs.Keeper.{Keeper}
 use Rattle.bearer.specs.Ledger.{Entry, waits}
 use Rattle.bearer.specs.Rule.{isIn}
-use Rattle.bearer.specs.Demand3.{World, packets, In, Rising}
+use Rattle.bearer.specs.Demand3.{World, In, Rising}
 use Rattle.bearer.specs.Meaning.{packetsFrom, Each, Maximal}
 use Rattle.bearer.proofs.Index.{froms}
-use Rattle.bearer.proofs.Lists.{tested, contrary, in-head, in-tail, in-cons, in-take, in-drop, rising-head, rising-tail, rising-cons}
+use Rattle.bearer.proofs.Lists.{tested, contrary, in-head, in-tail, in-cons, in-take, in-drop, rising-head, rising-tail}
 use Rattle.bearer.proofs.Members.{order, in-none, not-in}
 use Rattle.bearer.proofs.Open.{in-packets, rising-packets, length-packets}
 use Rattle.bearer.proofs.Runs.{maximal-first, maximal-tail}
-use Rattle.bearer.proofs.Marks.{waitingOf, waiting-held}
+use Rattle.bearer.proofs.Marks.{waitingOf}
 use Rattle.bearer.proofs.Pdcps.{few}
 use Rattle.bearer.proofs.Lengths.{Roomy, roomy}
+use Rattle.bearer.proofs.Applied.{waiting-rising}
 use Rattle.bearer.proofs.Flight.{Flight, flight-cut, flight-told, flight-closed}
 use Rattle.bearer.proofs.Joint.{Second, First, Joint, secondMark, masterMark}
 
@@ -48,15 +49,6 @@ rising-count (y ∷ ys) (x ∷ xs) r s f =
       ⊎-elim (λ e. absurd (⊎-elim (λ t. omega arith) (λ t. let k = rising-head x xs r z t in omega arith) (in-cons z x xs q))) (λ t. t) (in-cons z y ys (f z q))) in
     omega arith)
     (in-cons x y ys (f x (in-head x xs)))
-
--- who waits, in sending order
-waiting-rising : (es : List (Entry ℕ)) → Rising (packets es) → Rising (waitingOf es)
-waiting-rising [] r = tt
-waiting-rising (e ∷ es) r = go (waits e) (waiting-rising es (rising-tail (e .label) (packets es) r))
-  where
-    go : (b : Bool) → Rising (waitingOf es) → Rising (if b then e .label ∷ waitingOf es else waitingOf es)
-    go true s = rising-cons (e .label) (waitingOf es) (λ x p. rising-head (e .label) (packets es) r x (waiting-held x es p)) s
-    go false s = s
 
 waiting-most : (es : List (Entry ℕ)) → length (waitingOf es) ≤ length es
 waiting-most [] = omega arith

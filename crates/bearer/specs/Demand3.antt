@@ -95,7 +95,7 @@ inFlight w = drop (w .delivered) (w .built)
 
 -- ---- what each event does
 
--- the secondary and our rule after a copy of a packet, or after any numbers (only a packet moves the rule)
+-- the secondary after numbers reached it or a gap expired, and what our rule says then; a closed end takes no part in it
 abbrev pub atSecondary : World → K.Keeper → Fates → World
 atSecondary w k r = record { keeper = k; ledger = w .ledger; sent = w .sent; fates = if w .keeper .closed then w .fates else r; confirmed = w .confirmed; built = w .built; delivered = w .delivered; freed = w .freed }
 

@@ -5,3 +5,4 @@ pub mod Ledger
 pub mod Rule
 pub mod Demand3
 pub mod Meaning
+pub mod LedgerMeaning

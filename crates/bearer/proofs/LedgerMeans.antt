@@ -1,0 +1,206 @@
+-- Every ledger that calls reach from open means what document 01 says, and so does every status that such a ledger accepts
+-- (specs/LedgerMeaning.antt): each accepted call keeps a sound ledger (Master.antt), and a sound ledger means that.
+-- Assumes nothing.
+use mathlib.Core.Path.{_≡_, refl, sym, _∙_, ap, subst}
+use mathlib.Core.Bool.{Bool, true, false}
+use mathlib.Core.List.{List, [], _∷_, _++_, map}
+use mathlib.Core.Logic.{⊎-elim}
+use Prim.Native.Nat.{ℕ, suc, _+_, _-_, _/_, _≤_, _<_}
+use native.Mathlib.Omega.{arith}
+use native.Mathlib.Nat.{mod-lt}
+use borrow.Author.Tests.{ltb-true}
+use lib.Dec.{ltb}
+use lib.ListN.{length, take, drop, length-append, take-append-drop}
+use Rattle.circle.specs.Circle.{forward}
+use Rattle.layout.specs.Basics.{if_then_else_, _and_, done}
+use Rattle.bearer.specs.Bearer.{isLength, numbers, pdcps}
+use Rattle.bearer.specs.Ledger.{waiting, Entry, Ledger, Accepted, Taken, waits, openLedger, send, sentState, markLost, freed, accept, takeFrom, takeOldest, takeAt}
+use Rattle.bearer.specs.Demand3.{packets, Rising, In, isDone}
+use Rattle.bearer.specs.Meaning.{Each}
+use Rattle.bearer.specs.LedgerMeaning.{LedgerReached, opened, sending, accepting, taking, waitingIn, lostIn, pastHighest, StatusMeans, LedgersMean, StatusesMean}
+use Rattle.bearer.proofs.Lists.{contrary, and-true}
+use Rattle.bearer.proofs.Members.{passed, done-one}
+use Rattle.bearer.proofs.ImageLists.{each-so}
+use Rattle.bearer.proofs.ImageLaws.{positive, same-packet}
+use Rattle.bearer.proofs.Pdcps.{pdcpOf, faster, few}
+use Rattle.bearer.proofs.Lengths.{roomy}
+use Rattle.bearer.proofs.Master.{Entries, Master, Sends, send-cases, master-sends}
+use Rattle.bearer.proofs.Takes.{Left, take-cases, master-left}
+use Rattle.bearer.proofs.Turned.{turns-lost}
+use Rattle.bearer.proofs.Applied.{master-opened, entries-rest, waiting-rising, waiting-sent, length-turned}
+use Rattle.bearer.proofs.AcceptsAny.{Passes, passes, freed-count, packets-waiting, frees-by}
+
+-- a sound ledger, and the sum
+record Sound (L first : ℕ) (l : Ledger ℕ) (sent : List ℕ) (freed taken : ℕ) : Type 0 where
+  pub ok : isLength L ≡ true
+  pub cut : ℕ
+  pub master : Master L first cut sent l
+  pub sum : length (l .entries) + freed + taken ≡ length sent
+
+module _ (L first : ℕ) (l : Ledger ℕ) (sent : List ℕ) (freed₀ taken : ℕ) (x : Sound L first l sent freed₀ taken) where
+  -- an accepted status does as it says, and keeps a sound ledger
+  accept-step : (o : List ℕ) (a : Accepted) → Passes l o a → StatusMeans L sent l o a × Sound L first (accept l o .state) sent (freed₀ + a .freed) taken
+  accept-step o a p =
+      let m = x .master in
+      let fits : Each (λ (e : Entry ℕ). e .number < numbers L) (l .entries) = each-so (l .entries) (λ e n. rw n (mod-lt (first + e .label) (positive L))) (m .entries-are .numbered) in
+      let t = turns-lost L (l .entries) (p .frame .ranges) (p .pass) fits (ap (λ (b : ℕ). markLost b (l .entries) (p .frame .ranges)) (sym (m .bits-are)) ∙ p .found) in
+      let f = frees-by L first (x .cut) sent l (x .ok) m (p .frame) (t .turned) (p .named) in
+      let left : accept l o .state .entries ≡ freed l (p .frame .highest) (p .pass .entries) .entries = ap (λ (y : Ledger ℕ). y .entries) (p .state-is) in
+      let count : a .freed + length (accept l o .state .entries) ≡ length (l .entries) =
+      let c = freed-count l (p .frame .highest) (p .pass .entries) in
+      let d = ap length left in
+      let n = length-turned (t .turned) in
+      let g = p .freed-is in
+      omega (arith, c, d, n, g)
+      in (
+        record {
+          frame = p .frame;
+          read = p .read;
+          applied = p .pass .entries;
+          become-lost = t .turned;
+          lost-count = p .lost-is ∙ t .count-is;
+          are-freed = rw left (f .freed-by);
+          freed-count = count;
+        },
+        record {
+          ok = x .ok;
+          cut = f .cut;
+          master = rw (p .state-is) (f .master);
+          sum = let s = x .sum in omega (arith, count, s);
+        },
+      )
+
+  -- an accepted send is one packet more, and one entry
+  send-step : (p n : ℕ) → send l p (length sent) .answer ≡ done n → Sound L first (send l p (length sent) .state) (sent ++ (p ∷ [])) freed₀ taken
+  send-step p n e =
+      ⊎-elim (λ r. absurd (contrary (ap isDone e) (r .0))) (λ r. rw (r .1) (goes-out (r .2)))
+      (send-cases L p (length sent) l (x .master .bits-are))
+    where
+      goes-out : Sends L l p → Sound L first (sentState l p (length sent)) (sent ++ (p ∷ [])) freed₀ taken
+      goes-out s = record {
+        ok = x .ok;
+        cut = x .cut;
+        master = master-sends L first (x .cut) sent l p (x .ok) (x .master) s;
+        sum = let h = x .sum in omega (arith, h, length-append (l .entries) (record { number = l .next; pdcp = p; fate = waiting; label = length sent } ∷ []), length-append sent (p ∷ []));
+      }
+
+  -- an accepted take is one entry less
+  take-step : (t : Taken) → takeOldest l .answer ≡ done t → Sound L first (takeOldest l .state) sent freed₀ (taken + 1)
+  take-step t e =
+      let less = shorter (take i (l .entries)) (drop i (l .entries)) e in
+      let whole : length (take i (l .entries)) + length (drop i (l .entries)) ≡ length (l .entries) = sym (length-append (take i (l .entries)) (drop i (l .entries))) ∙ ap length (take-append-drop i (l .entries)) in
+      let left : Left l (takeOldest l .state) = ⊎-elim (λ s. absurd (let q = ap (λ (y : Ledger ℕ). length (y .entries)) s in omega (arith, q, less, whole))) (λ s. s) (take-cases l) in
+      record {
+        ok = x .ok;
+        cut = x .cut;
+        master = master-left L first (x .cut) sent l (takeOldest l .state) (x .master) left;
+        sum = let h = x .sum in omega (arith, h, less, whole);
+      }
+    where
+      i : ℕ
+      i = takeAt (l .closed) (l .entries)
+
+      shorter : (front es : List (Entry ℕ)) → takeFrom l front es .answer ≡ done t → suc (length (takeFrom l front es .state .entries)) ≡ length front + length es
+      shorter front [] e = absurd (let z : _≡_ {A = ℕ} 0 1 = cc in omega arith)
+      shorter front (d ∷ es) e = omega (arith, length-append front es)
+
+-- a ledger is sound when it is opened
+open-step : (L first f : ℕ) (l : Ledger ℕ) → openLedger L first f ≡ done l → Sound L first l [] 0 0
+open-step L first f l e =
+    let ok = passed (isLength L) 7 _ l e in
+    let good = passed (ltb first (numbers L) and ltb f (pdcps L)) 10 _ l (ok .1) in
+    let small : first < numbers L = ltb-true first (numbers L) (and-true (ltb first (numbers L)) (ltb f (pdcps L)) (good .0) .0) in
+    subst (λ (y : Ledger ℕ). Sound L first y [] 0 0) (done-one _ l (good .1)) (record {
+      ok = ok .0;
+      cut = 0;
+      master = master-opened L first f (ok .0) small;
+      sum = refl;
+    })
+
+sound : (L first f : ℕ) {l : Ledger ℕ} {sent : List ℕ} {freed taken : ℕ} → LedgerReached L first f l sent freed taken → Sound L first l sent freed taken
+sound L first f (opened {l = l} e) = open-step L first f l e
+sound L first f (sending {l = l} {sent = sent} {freed = freed} {taken = taken} p n x e) = send-step L first l sent freed taken (sound L first f x) p n e
+sound L first f (accepting {l = l} {sent = sent} {freed = freed} {taken = taken} o a x e) = accept-step L first l sent freed taken (sound L first f x) o a (passes l o a e) .1
+sound L first f (taking {l = l} {sent = sent} {freed = freed} {taken = taken} t x e) = take-step L first l sent freed taken (sound L first f x) t e
+
+-- every status that a reached ledger accepts does as it says
+pub statuses-mean : StatusesMean
+statuses-mean L first f l sent freed taken x o a e = accept-step L first l sent freed taken (sound L first f x) o a (passes l o a e) .0
+
+-- ---- what a sound ledger means
+
+-- every entry waits or is lost
+counts-sum : (es : List (Entry ℕ)) → length (waitingIn es) + length (lostIn es) ≡ length es
+counts-sum [] = refl
+counts-sum (e ∷ es) = go (waits e) (counts-sum es)
+  where
+    go : (b : Bool) → length (waitingIn es) + length (lostIn es) ≡ length es
+        → length (if b then e ∷ waitingIn es else waitingIn es) + length (if b then lostIn es else e ∷ lostIn es) ≡ suc (length es)
+    go true h = omega arith
+    go false h = omega arith
+
+module _ (L first cut : ℕ) (sent : List ℕ) (l : Ledger ℕ) (ok : isLength L ≡ true) (m : Master L first cut sent l) where
+  -- a packet that was sent past H, and its PDCP number
+  abbrev SentPast : Entry ℕ → Type 0
+  SentPast e = (cut ≤ e .label) × (e .label < length sent) × (e .pdcp ≡ pdcpOf sent (e .label))
+
+  -- such is every waiting entry
+  waiting-past : (es : List (Entry ℕ)) → Entries L first cut sent es → Each SentPast (waitingIn es)
+  waiting-past [] s = tt
+  waiting-past (e ∷ es) s = go (waits e) refl (waiting-past es (entries-rest L first cut sent e es s))
+    where
+      go : (b : Bool) → waits e ≡ b → Each SentPast (waitingIn es) → Each SentPast (if b then e ∷ waitingIn es else waitingIn es)
+      go true w r = ((s .from-cut .0 w, s .were-sent .0, s .pdcps-are .0), r)
+      go false w r = r
+
+  -- forward from H it is more than 0, less than half the PDCP numbers, and ever farther
+  forward-past : (e : Entry ℕ) → SentPast e → 0 < pastHighest L l e
+  forward-past e k = rw (k .2) (m .ordered .past (e .label) (k .0) (k .1))
+
+  forward-half : (e : Entry ℕ) → SentPast e → pastHighest L l e < pdcps L / 2
+  forward-half e k =
+      let d = length sent - 1 - e .label in
+      let last : e .label + d ≡ length sent - 1 = omega (arith, k .1) in
+      let far = faster (pdcps L) (l .highest) (l .sent) cut sent (roomy L ok .some-pdcps) (m .ordered) (e .label) d (k .0) (omega (arith, k .1)) in
+      let near : forward (pdcps L) (l .highest) (pdcpOf sent (e .label + d)) < pdcps L / 2 = rw last (m .ordered .last-near (omega (arith, k .0, k .1))) in
+      rw (k .2) (omega (arith, far, near))
+
+  forward-rises : (ws : List (Entry ℕ)) → Rising (packets ws) → Each SentPast ws → Rising (map (pastHighest L l) ws)
+  forward-rises [] r a = tt
+  forward-rises (e ∷ []) r a = tt
+  forward-rises (e ∷ d ∷ ws) r a =
+      (rw (a .0 .2, a .1 .0 .2) (m .ordered .up (e .label) (d .label) (a .0 .0) (r .0) (a .1 .0 .1)), forward-rises (d ∷ ws) (r .1) (a .1))
+
+  -- fewer than half the PDCP numbers lie between any two waiting packets
+  waiting-span : (i j : ℕ) → In i (packets (waitingIn (l .entries))) → In j (packets (waitingIn (l .entries))) → suc j < i + pdcps L / 2
+  waiting-span i j hi hj =
+      let a = waiting-sent L first cut sent i (l .entries) (m .entries-are) (rw (packets-waiting (l .entries)) at hi) in
+      let b = waiting-sent L first cut sent j (l .entries) (m .entries-are) (rw (packets-waiting (l .entries)) at hj) in
+      let f = few (pdcps L) (l .highest) (l .sent) cut sent (roomy L ok .some-pdcps) (m .ordered) (omega (arith, a .0, a .1)) in
+      omega (arith, f, a .0, b .1)
+
+-- every ledger that calls reach means what document 01 says
+pub ledgers-mean : LedgersMean
+ledgers-mean L first f l sent freed taken x =
+    let s = sound L first f x in
+    let m = s .master in
+    let a = waiting-past L first (s .cut) sent l (s .ok) m (l .entries) (m .entries-are) in
+    record {
+      same-length = m .bits-are;
+      sum = let h = s .sum in omega (arith, h, counts-sum (l .entries));
+      in-order = m .entries-are .rising;
+      were-sent = m .entries-are .were-sent;
+      numbered = m .entries-are .numbered;
+      pdcps-are = m .entries-are .pdcps-are;
+      next-is = m .next-is;
+      pdcps-rise = forward-rises L first (s .cut) sent l (s .ok) m (waitingIn (l .entries)) (rw (packets-waiting (l .entries)) (waiting-rising (l .entries) (m .entries-are .rising))) a;
+      past-highest = each-so (waitingIn (l .entries)) (forward-past L first (s .cut) sent l (s .ok) m) a;
+      within-half = each-so (waitingIn (l .entries)) (forward-half L first (s .cut) sent l (s .ok) m) a;
+      span = waiting-span L first (s .cut) sent l (s .ok) m;
+      one-number = λ i j hi hj e.
+          let r = roomy L (s .ok) in
+          let p = waiting-span L first (s .cut) sent l (s .ok) m i j hi hj in
+          let q = waiting-span L first (s .cut) sent l (s .ok) m j i hj hi in
+          same-packet (numbers L) first (positive L) i j (omega (arith, q, r .halves, r .more-pdcps)) (omega (arith, p, r .halves, r .more-pdcps)) e;
+      most = m .most;
+    }
