@@ -170,7 +170,7 @@ module _ (L first : ℕ) (ok : isLength L ≡ true) (w : World) (j : Joint L fir
   pdcp = getD (w .sent) (j .a .base + d) 0
 
   -- 13 isn't given: from the cut to the last packet sent it is less than half the circle
-  floor-near : floorI (j .a) + d < half L
+  pub floor-near : floorI (j .a) + d < half L
   floor-near =
       let c = j .second .cut-base in
       let near = sent-near L first ok w j o (omega arith) in
@@ -189,14 +189,14 @@ module _ (L first : ℕ) (ok : isLength L ≡ true) (w : World) (j : Joint L fir
       back-records (h ∷ hs) e = let c = e .0 in omega arith
 
   -- 14 isn't given
-  runs-near : length (runsAfterI (j .a) (K.limitOf d)) ≤ mostRuns
+  pub runs-near : length (runsAfterI (j .a) (K.limitOf d)) ≤ mostRuns
   runs-near = few-runs L first ok w j o (K.limitOf d) (omega arith)
 
   unrecorded : isIn (j .a .base + d) (indexes (j .a .records)) ≡ false
   unrecorded = recorded (j .second .follows) (j .a .base + d) (omega arith) ∙ fresh
 
   -- 15 isn't given: the packet and all that have records wait at the master
-  records-near : length (j .a .records) < mostRecords
+  pub records-near : length (j .a .records) < mostRecords
   records-near =
       let xs = indexes (j .a .records) in
       let p = placeI (j .a) (j .a .base + d) in
@@ -213,7 +213,7 @@ module _ (L first : ℕ) (ok : isLength L ≡ true) (w : World) (j : Joint L fir
       let same = length-map (j .a .records) (λ (h : Held). h .index) in
       omega (arith, most, one, same)
 
-  was-open : isOpen (w .fates) (j .a .base + d) ≡ true
+  pub was-open : isOpen (w .fates) (j .a .base + d) ≡ true
   was-open = open-is (w .fates) (j .a .base + d) fresh (not-in (j .a .base + d) (w .fates .lost) (λ p. let z = j .second .follows .lost-before (j .a .base + d) p in omega arith))
 
   abbrev new : List ℕ

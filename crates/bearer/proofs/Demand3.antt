@@ -29,6 +29,7 @@ use Rattle.bearer.proofs.Calls.{joint-send, joint-other, joint-take, jo
 use Rattle.bearer.proofs.Reporting.{joint-status}
 use Rattle.bearer.proofs.Confirming.{joint-confirm}
 use Rattle.bearer.proofs.Arriving.{joint-copy, joint-expire}
+use Rattle.bearer.proofs.Copies.{joint-answers}
 
 -- ---- open
 
@@ -134,7 +135,8 @@ joint-keeps : (L first : ℕ) → isLength L ≡ true → (w : World) → Joint 
 joint-keeps L first ok w j = record {
     all-reported = joint-reported L first w j;
     accepted = joint-accepts L first ok w j;
-    freed-exactly = joint-freed L first w j
+    freed-exactly = joint-freed L first w j;
+    copies-answered = joint-answers L first ok w j
   }
 
 -- demand 3

@@ -34,6 +34,7 @@ pub mod Confirming
 pub mod Waiting
 pub mod Growth
 pub mod Arriving
+pub mod Copies
 pub mod Demand3
 pub mod KeeperMeans
 pub mod Turned

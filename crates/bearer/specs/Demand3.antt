@@ -14,15 +14,15 @@ use mathlib.Core.Path.{_≡_}
 use mathlib.Core.Bool.{Bool, true, false}
 use mathlib.Core.List.{List, [], _∷_, _++_, map}
 use mathlib.Core.Logic.{_⊎_, _↔_}
-use Prim.Native.Nat.{ℕ, zero, suc, _+_, _-_, _*_, _%_, _^_, _≤_, _<_, max}
+use Prim.Native.Nat.{ℕ, zero, suc, _+_, _-_, _*_, _/_, _%_, _^_, _≤_, _<_, max}
 use lib.Dec.{eqb}
 use lib.ListN.{length, getD, take, drop}
 use Rattle.layout.specs.Basics.{if_then_else_, Outcome, done, refused}
 use Rattle.layout.specs.Frames.{Range, Status, Reading, data-of, status-of, refuse, readFrame}
-use Rattle.bearer.specs.Bearer.{numbers, half, ahead, After}
+use Rattle.bearer.specs.Bearer.{numbers, ahead, After}
 use Rattle.bearer.specs.Keeper as K
 use Rattle.bearer.specs.Ledger as G
-use Rattle.bearer.specs.Rule.{Fates, isIn, arrival, expiry}
+use Rattle.bearer.specs.Rule.{Fates, isIn, isOpen, arrival, expiry}
 
 -- ---- the calls and the backhaul
 
@@ -89,7 +89,7 @@ abbrev pub isDone : {A : Type 0} → Outcome A → Bool
 isDone (done a) = true
 isDone (refused n) = false
 
--- the octets of the next frame on its way to the master, if there is one
+-- the frames built that have not reached the master yet, in the order built
 abbrev pub inFlight : World → List Built
 inFlight w = drop (w .delivered) (w .built)
 
@@ -159,7 +159,7 @@ pub record OpenedAlike (L first f : ℕ) (w : World) : Type 0 where
 -- what deliver does; other octets are such as the master refuses. Sizes are numbers of 32 bits. Everything else may happen at any time.
 abbrev pub Allowed : ℕ → World → Event → Type 0
 Allowed L w (send p) = Unit
-Allowed L w (copy i) = (i < length (w .sent)) × (length (w .sent) ≤ i + half L)
+Allowed L w (copy i) = (i < length (w .sent)) × (length (w .sent) ≤ i + numbers L / 2)
 Allowed L w (stray n p) = (K.arrive (w .keeper) n p .answer ≡ refused 9) ⊎ (K.arrive (w .keeper) n p .answer ≡ refused 10)
 Allowed L w expire = Unit
 Allowed L w (confirm n) = Unit
@@ -211,7 +211,8 @@ Rising [] = Unit
 Rising (i ∷ []) = Unit
 Rising (i ∷ j ∷ js) = (i < j) × Rising (j ∷ js)
 
--- the packets reported lost in the frames that the master has accepted: as many of those declared lost as these frames have numbers
+-- the packets reported lost in the frames that the master has accepted: as many of those declared lost as these frames have numbers; by
+-- `exactly` below they are the packets whose numbers these frames bear
 abbrev pub reportedLost : ℕ → World → List ℕ
 reportedLost L w = take (length (inFrames L (take (w .delivered) (w .built)))) (w .fates .lost)
 
@@ -248,15 +249,28 @@ Deserved L w i = In i (confirmedThen w) × ((j : ℕ) → j < i → In j (confir
 abbrev pub FreedExactly : ℕ → World → Type 0
 FreedExactly L w = (i : ℕ) → In i (w .freed) ↔ Deserved L w i
 
+-- what a copy is answered: how many became lost, if the packet is open; else that it is late or has a record
+abbrev pub Answered : Bool → ℕ → Outcome ℕ → Type 0
+Answered true c a = a ≡ done c
+Answered false c a = (a ≡ refused 11) ⊎ (a ≡ refused 12)
+
+-- while the secondary is open it takes each copy of an open packet, answers how many our rule declares lost by it, and refuses any other copy
+-- as late or recorded already: 13, 14 and 15 are never given
+abbrev pub CopiesAnswered : ℕ → ℕ → World → Type 0
+CopiesAnswered L first w =
+    w .keeper .closed ≡ false → (i : ℕ) → Allowed L w (copy i)
+    → Answered (isOpen (w .fates) i) (length (arrival (w .fates) i .lost) - length (w .fates .lost)) (K.arrive (w .keeper) (numberOf L first i) (getD (w .sent) i 0) .answer)
+
 -- what holds of a world
 pub record Kept (L first : ℕ) (w : World) : Type 0 where
   pub all-reported : AllReported L first w
   pub accepted : Accepts w (inFlight w)
   pub freed-exactly : FreedExactly L w
+  pub copies-answered : CopiesAnswered L first w
 
 -- ---- the statement
 
--- from both ends opened alike, over any list of events each of which is allowed when it happens, the three hold
+-- from both ends opened alike, over any list of events each of which is allowed when it happens, all of it holds
 abbrev pub Demand3 : Type 0
 Demand3 =
     (L first f : ℕ) (w : World) → OpenedAlike L first f w → (es : List Event) → AllAllowed L first w es

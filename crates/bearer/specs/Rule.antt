@@ -6,7 +6,6 @@ use mathlib.Core.List.{List, [], _∷_, _++_}
 use Prim.Native.Nat.{ℕ, zero, suc, _+_, _-_, max}
 use lib.Dec.{eqb}
 use Rattle.layout.specs.Basics.{if_then_else_, _and_, _or_}
-use Rattle.bearer.specs.Bearer.{window}
 
 -- "Each number from the first on is open, received or lost": the received, and the lost in the order they were declared
 pub record Fates : Type 0 where
@@ -44,10 +43,14 @@ declare r n = record { received = r .received; lost = r .lost ++ openBelow r n }
 abbrev pub receive : Fates → ℕ → Fates
 receive r i = record { received = i ∷ r .received; lost = r .lost }
 
+-- document 01's figure, written here again on purpose: an edit of the machine's must not move the rule
+abbrev pub farBelow : ℕ
+farBelow = 256
+
 -- "Arrival adds a record, then declares lost each open number that is 256 or more below the arrival." A packet that is
 -- received or lost already stays what it is.
 abbrev pub arrival : Fates → ℕ → Fates
-arrival r i = if isOpen r i then declare (receive r i) (suc i - window) else r
+arrival r i = if isOpen r i then declare (receive r i) (suc i - farBelow) else r
 
 -- the highest accepted packet; 0 for none, below which there is no packet
 abbrev pub highest : List ℕ → ℕ
