@@ -16,7 +16,7 @@ use Rattle.bearer.specs.Bearer.{window}
 use Rattle.bearer.specs.Losses.{Gap}
 use Rattle.bearer.specs.Rule.{Fates}
 use Rattle.bearer.specs.Demand3.{In}
-use Rattle.bearer.specs.Meaning.{Held, packetsFrom, packetsOf, Each, indexes}
+use Rattle.bearer.specs.Meaning.{Held, packetsFrom, packetsOf, Each, indexes, BeforeFirst, PastFirst}
 use Rattle.bearer.proofs.Index.{Indexed, froms, noHeld, deliveredI, confirmedI, mayGoI, letGoI, reportedI}
 use Rattle.bearer.proofs.ImageLists.{each-take, each-drop, each-at, each-so, each-both, map-take, map-drop}
 use Rattle.bearer.proofs.Lists.{tested, contrary, and-true, in-left, in-drop, in-split, each-set, each-in, rising-drop, each-run, run-ends}
@@ -61,16 +61,6 @@ module _ {h : ℕ} {a : Indexed} {r : Fates} {told : ℕ} (F : Follows h a r tol
       of-index P e = each-set (λ (y : Held). P (y .index)) (a .records) p x (each-at (λ (y : Held). P (y .index)) (a .records) p noHeld inside e) e
 
 -- ---- what a status lets go
-
--- a packet lies before the first of the runs left out, if there is one
-abbrev pub BeforeFirst : List Gap → ℕ → Type 0
-BeforeFirst [] j = Unit
-BeforeFirst (g ∷ gs) j = j < g .from
-
--- there is a run left out, and the packet lies past the first
-abbrev pub PastFirst : List Gap → ℕ → Type 0
-PastFirst [] j = ⊥
-PastFirst (g ∷ gs) j = g .to ≤ j
 
 may-go : (gs : List Gap) (x : Held) → mayGoI gs x ≡ true → (x .confirmed ≡ true) × BeforeFirst gs (x .index)
 may-go [] x e = (e, tt)

@@ -10,23 +10,24 @@ use native.Mathlib.Omega.{arith}
 use native.Mathlib.Nat.{mod-lt, mod-eq-of-lt, mod-add-mod}
 use borrow.Author.Tests.{ltb-true, leb-false}
 use lib.Dec.{ltb, leb}
-use lib.ListN.{length, take, length-map}
+use lib.ListN.{length, getD, take, drop, length-map}
+use lib.Seq.{take-append-seam}
 use Rattle.circle.specs.Circle.{forward, forward-lands}
-use Rattle.layout.specs.Basics.{if_then_else_, _and_, Outcome, done, refused}
-use Rattle.layout.specs.Frames.{mostRanges, writeStatus}
+use Rattle.layout.specs.Basics.{if_then_else_, _and_, Outcome, done, refused, all}
+use Rattle.layout.specs.Frames.{Status, mostRanges, mostHighest, inForm, statusOctets, unwritten, place, writeStatus}
 use Rattle.bearer.specs.Bearer.{isLength, numbers, half, pdcps, pdcpBefore, After}
-use Rattle.bearer.specs.Losses.{beforeBase}
+use Rattle.bearer.specs.Losses.{Gap, beforeBase}
 use Rattle.bearer.specs.Keeper as K
 use Rattle.bearer.specs.Rule.{Fates, arrival, expiry}
 use Rattle.bearer.specs.Demand3.{numberOf, inRanges}
-use Rattle.bearer.specs.Meaning.{Means, Lowest, packetsOf, Reached, opened, arrived, expired, confirmed, reported, KeeperMeans}
-use Rattle.bearer.proofs.Index.{Indexed, image, confirmedI, reportedI}
+use Rattle.bearer.specs.Meaning.{Held, Means, Lowest, packetsOf, PastFirst, HoldsUp, lastPdcp, StatusSays, StatusesSay, Reached, opened, arrived, expired, confirmed, reported, KeeperMeans}
+use Rattle.bearer.proofs.Index.{Indexed, image, noHeld, confirmedI, mayGoI, letGoI, highestI, reportedI}
 use Rattle.bearer.proofs.Lists.{contrary, and-true}
 use Rattle.bearer.proofs.Members.{order, passed, done-one}
 use Rattle.bearer.proofs.Follows.{Follows, follows-start}
 use Rattle.bearer.proofs.FollowsArrival.{follows-arrived}
 use Rattle.bearer.proofs.FollowsExpiry.{follows-expired}
-use Rattle.bearer.proofs.FollowsStatus.{follows-confirm, follows-status}
+use Rattle.bearer.proofs.FollowsStatus.{follows-confirm, follows-status, let-go, let-go-ends}
 use Rattle.bearer.proofs.FollowsMeans.{follows-means, follows-reach}
 use Rattle.bearer.proofs.GivenUp.{not-refused}
 use Rattle.bearer.proofs.ImageLaws.{positive}
@@ -190,3 +191,91 @@ arrival-answers L first f k r told n p c base x low e = arrival-step L first k r
 -- and so does an accepted expiry
 pub expiry-answers : (L first f : ℕ) (k : K.Keeper) (r : Fates) (told c : ℕ) → Reached L first f k r told → K.expire k .answer ≡ done c → length (expiry r .lost) ≡ length (r .lost) + c
 expiry-answers L first f k r told c x e = expiry-step L first k r told c (indexes L first f x) e .1
+
+-- ---- what a status says
+
+-- the PDCP number of the record in front of a place; another in front of the first
+abbrev by-place : ℕ → ℕ → List Held → ℕ
+by-place zero p hs = p
+by-place (suc n) p hs = getD hs n noHeld .pdcp
+
+-- the last of the records in front of a place
+last-pdcp : (hs : List Held) (n p : ℕ) → n ≤ length hs → lastPdcp p (take n hs) ≡ by-place n p hs
+last-pdcp hs zero p h = refl
+last-pdcp [] (suc n) p h = absurd (omega arith)
+last-pdcp (x ∷ hs) (suc zero) p h = refl
+last-pdcp (x ∷ hs) (suc (suc n)) p h = last-pdcp hs (suc n) (x .pdcp) (omega arith)
+
+-- a record at a place holds up those behind it
+holds-up : (left : List Gap) (hs : List Held) (n : ℕ) → (n < length hs → (getD hs n noHeld .confirmed ≡ false) ⊎ PastFirst left (getD hs n noHeld .index)) → HoldsUp left (drop n hs)
+holds-up left [] zero f = tt
+holds-up left [] (suc n) f = tt
+holds-up left (h ∷ hs) zero f = f (omega arith)
+holds-up left (h ∷ hs) (suc n) f = holds-up left hs n (λ l. f (omega arith))
+
+run-within : {A : Type 0} (p : A → Bool) (xs : List A) → K.runWith p xs ≤ length xs
+run-within p [] = omega arith
+run-within p (x ∷ xs) = go (p x) (run-within p xs)
+  where
+    go : (b : Bool) → K.runWith p xs ≤ length xs → (if b then suc (K.runWith p xs) else 0) ≤ suc (length xs)
+    go true h = omega arith
+    go false h = omega arith
+
+-- the frame that an accepted status built
+built-frame : (k : K.Keeper) (d m : ℕ) (final : Bool) (buffer : List ℕ) (c : ℕ) → K.status k d m final buffer .answer ≡ done c
+    → take c (K.status k d m final buffer .buffer) ≡ statusOctets (K.statusNow k d m final)
+built-frame k d m final buffer c = shut (k .closed) (final and ltb mostRanges (length (k .runs))) (K.reportedAs k final (writeStatus (K.statusNow k d m final) buffer)) (written (K.statusNow k d m final))
+  where
+    shut : (t u : Bool) (x : K.Reported) → (x .answer ≡ done c → take c (x .buffer) ≡ statusOctets (K.statusNow k d m final))
+        → (if t then record { answer = refused 9; state = k; buffer = buffer } else (if u then record { answer = refused 22; state = k; buffer = buffer } else x)) .answer ≡ done c
+        → take c ((if t then record { answer = refused 9; state = k; buffer = buffer } else (if u then record { answer = refused 22; state = k; buffer = buffer } else x)) .buffer) ≡ statusOctets (K.statusNow k d m final)
+    shut true u x f e = absurd (let z : _≡_ {A = ℕ} 0 1 = cc in omega arith)
+    shut false true x f e = absurd (let z : _≡_ {A = ℕ} 0 1 = cc in omega arith)
+    shut false false x f e = f e
+    placed : (o : List ℕ) (t : Bool) → (if t then unwritten 20 buffer else record { answer = done (length o); buffer = o ++ drop (length o) buffer }) .answer ≡ done c
+        → take c ((if t then unwritten 20 buffer else record { answer = done (length o); buffer = o ++ drop (length o) buffer }) .buffer) ≡ o
+    placed o true e = absurd (let z : _≡_ {A = ℕ} 0 1 = cc in omega arith)
+    placed o false e = ap (λ (n : ℕ). take n (o ++ drop (length o) buffer)) (sym (done-one (length o) c e)) ∙ take-append-seam o (drop (length o) buffer)
+    written : (s : Status) → writeStatus s buffer .answer ≡ done c → take c (writeStatus s buffer .buffer) ≡ statusOctets s
+    written s = tests (ltb (mostHighest (s .long)) (s .highest)) (ltb mostRanges (length (s .ranges))) (all (inForm (s .long)) (s .ranges))
+      where
+        tests : (x y z : Bool) → (if x then unwritten 4 buffer else if y then unwritten 5 buffer else if z then place (statusOctets s) buffer else unwritten 10 buffer) .answer ≡ done c
+            → take c ((if x then unwritten 4 buffer else if y then unwritten 5 buffer else if z then place (statusOctets s) buffer else unwritten 10 buffer) .buffer) ≡ statusOctets s
+        tests true y z e = absurd (let q : _≡_ {A = ℕ} 0 1 = cc in omega arith)
+        tests false true z e = absurd (let q : _≡_ {A = ℕ} 0 1 = cc in omega arith)
+        tests false false true e = placed (statusOctets s) (ltb (length buffer) (length (statusOctets s))) e
+        tests false false false e = absurd (let q : _≡_ {A = ℕ} 0 1 = cc in omega arith)
+
+-- every accepted status of a reached state says what document 01 says
+pub statuses-say : StatusesSay
+statuses-say L first f k r told x d m final buffer c e =
+    let i = indexes L first f x in
+    let a = i .a in
+    let same = image-status L first a (follows-reach (i .follows)) in
+    let state : K.status k d m final buffer .state ≡ image L first (reportedI a final) =
+        reported-state L first k d m final buffer c e ∙ ap (λ (y : K.Keeper). K.reportedState y final) (i .state-is) ∙ same .state-is final
+    in
+    let highest : K.statusNow k d m final .highest ≡ highestI a (letGoI a) = ap (λ (y : K.Keeper). K.statusNow y d m final .highest) (i .state-is) ∙ same .highest in
+    (record {
+      runs = a .runs;
+      records = a .records;
+      gone = letGoI a;
+      runs-were = ap (λ (y : K.Keeper). y .runs) (i .state-is);
+      records-were = ap (λ (y : K.Keeper). y .records) (i .state-is);
+      carried = ap (λ (y : K.Keeper). K.statusNow y d m final .ranges) (i .state-is) ∙ same .ranges d m final;
+      left-out = ap (λ (y : K.Keeper). y .runs) state;
+      go = let-go a;
+      no-more = holds-up (drop mostRanges (a .runs)) (a .records) (letGoI a) (let-go-ends (i .follows));
+      highest-is =
+        highest
+        ∙ by-highest (letGoI a)
+        ∙ sym (last-pdcp (a .records) (letGoI a) (a .reported) (run-within (mayGoI (drop mostRanges (a .runs))) (a .records)))
+        ∙ ap (λ (y : K.Keeper). lastPdcp (y .reported) (take (letGoI a) (a .records))) (sym (i .state-is));
+      are-left = ap (λ (y : K.Keeper). y .records) state;
+      reported-is = ap (λ (y : K.Keeper). y .reported) state ∙ sym highest;
+      final-closes = ap (λ (y : K.Keeper). y .closed) state
+    }, built-frame k d m final buffer c e)
+  where
+    by-highest : (n : ℕ) → highestI (indexes L first f x .a) n ≡ by-place n (indexes L first f x .a .reported) (indexes L first f x .a .records)
+    by-highest zero = refl
+    by-highest (suc n) = refl

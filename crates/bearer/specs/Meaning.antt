@@ -1,17 +1,18 @@
 -- What the secondary's machine means: every state that calls reach from open is as document 01 says, on packet indexes that
--- never roll over (issue of the written rule: Rule.antt). The statement is `KeeperMeans`; it is proved in proofs/.
+-- never roll over (the written rule: Rule.antt). The statements are `KeeperMeans` and `StatusesSay`; they are proved in proofs/KeeperMeans.antt.
 -- Assumes nothing.
 use mathlib.Core.Path.{_≡_}
 use mathlib.Core.Bool.{Bool, true, false}
 use mathlib.Core.List.{List, [], _∷_, _++_, map}
+use mathlib.Core.Logic.{_⊎_}
 use Prim.Native.Nat.{ℕ, zero, suc, _+_, _-_, _*_, _%_, _≤_, _<_}
-use lib.ListN.{length, drop}
+use lib.ListN.{length, take, drop}
 use Rattle.circle.specs.Circle.{forward}
 use Rattle.layout.specs.Basics.{Outcome, done, refused}
-use Rattle.layout.specs.Frames.{Range}
+use Rattle.layout.specs.Frames.{Range, Status, statusOctets}
 use Rattle.bearer.specs.Bearer.{numbers, half, mostRuns, mostRecords}
 use Rattle.bearer.specs.Losses.{Gap}
-use Rattle.bearer.specs.Keeper.{Keeper, Record, openKeeper, circle, arrive, expire, confirm, status}
+use Rattle.bearer.specs.Keeper.{Keeper, Record, openKeeper, circle, arrive, expire, confirm, status, statusNow}
 use Rattle.bearer.specs.Rule.{Fates, isIn, isOpen, arrival, expiry}
 use Rattle.bearer.specs.Demand3.{numberOf, Rising, inRanges}
 
@@ -107,8 +108,57 @@ pub data Reached (L first f : ℕ) : Keeper → Fates → ℕ → Type 0 where
     → Reached L first f (confirm k n .state) r told
   reported : {k : Keeper} {r : Fates} {told : ℕ} (d m : ℕ) (final : Bool) (buffer : List ℕ) (c : ℕ) → Reached L first f k r told
     → status k d m final buffer .answer ≡ done c
-    → Reached L first f (status k d m final buffer .state) r (told + length (inRanges L (Rattle.bearer.specs.Keeper.statusNow k d m final .ranges)))
+    → Reached L first f (status k d m final buffer .state) r (told + length (inRanges L (statusNow k d m final .ranges)))
 
 -- the statement
 abbrev pub KeeperMeans : Type 0
 KeeperMeans = (L first f : ℕ) (k : Keeper) (r : Fates) (told : ℕ) → Reached L first f k r told → Means L first k r told
+
+-- ---- what a status says
+
+-- a packet lies before the first of runs, if there is one
+abbrev pub BeforeFirst : List Gap → ℕ → Type 0
+BeforeFirst [] j = Unit
+BeforeFirst (g ∷ gs) j = j < g .from
+
+-- a packet lies past the first of runs
+abbrev pub PastFirst : List Gap → ℕ → Type 0
+PastFirst [] j = ⊥
+PastFirst (g ∷ gs) j = g .to ≤ j
+
+-- a record that holds up those behind it: not confirmed, or past the first run left out
+abbrev pub HoldsUp : List Gap → List Held → Type 0
+HoldsUp left [] = Unit
+HoldsUp left (h ∷ hs) = (h .confirmed ≡ false) ⊎ PastFirst left (h .index)
+
+-- the PDCP number of the last of records; another where there is none
+abbrev pub lastPdcp : ℕ → List Held → ℕ
+lastPdcp p [] = p
+lastPdcp p (h ∷ hs) = lastPdcp (h .pdcp) hs
+
+-- An accepted status s takes the secondary from k to t. "It carries the first 162 runs, or all if fewer. Its highest is the PDCP number of
+-- the last record, in sending order, such that it and every record before it are confirmed and it lies before the first run left out; if
+-- there is no such record, the reported highest again. It is the reported highest from then on. Carried runs and those records are
+-- dropped. Final closes this end."
+pub record StatusSays (L first : ℕ) (k t : Keeper) (s : Status) : Type 0 where
+  pub runs : List Gap
+  pub records : List Held
+  pub gone : ℕ
+  pub runs-were : k .runs ≡ map (runAt L first) runs
+  pub records-were : k .records ≡ map (recordAt L first) records
+  pub carried : s .ranges ≡ map (runAt L first) (take 162 runs)
+  pub left-out : t .runs ≡ map (runAt L first) (drop 162 runs)
+  pub go : Each (λ (h : Held). (h .confirmed ≡ true) × BeforeFirst (drop 162 runs) (h .index)) (take gone records)
+  pub no-more : HoldsUp (drop 162 runs) (drop gone records)
+  pub highest-is : s .highest ≡ lastPdcp (k .reported) (take gone records)
+  pub are-left : t .records ≡ map (recordAt L first) (drop gone records)
+  pub reported-is : t .reported ≡ s .highest
+  pub final-closes : t .closed ≡ s .final
+
+-- the frame that an accepted status leaves at the front of the buffer says so
+abbrev pub StatusesSay : Type 0
+StatusesSay =
+    (L first f : ℕ) (k : Keeper) (r : Fates) (told : ℕ) → Reached L first f k r told
+    → (d m : ℕ) (final : Bool) (buffer : List ℕ) (c : ℕ) → status k d m final buffer .answer ≡ done c
+    → StatusSays L first k (status k d m final buffer .state) (statusNow k d m final)
+    × (take c (status k d m final buffer .buffer) ≡ statusOctets (statusNow k d m final))
