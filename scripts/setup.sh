@@ -2,7 +2,7 @@
 # Installs what the project needs from Debian's packages, where it is missing. The Rattle kit, gcc, cargo and rustc are
 # taken to be there.
 set -eu
-needed=(librust-proptest-dev librust-criterion-dev valgrind)
+needed=(librust-proptest-dev librust-criterion-dev)
 missing=()
 for p in "${needed[@]}"; do
   dpkg-query -W -f='${Status}' "$p" 2>/dev/null | grep -q 'ok installed' || missing+=("$p")
@@ -10,5 +10,5 @@ done
 if [ ${#missing[@]} -gt 0 ]; then
   as_root=$([ "$(id -u)" = 0 ] || echo sudo)
   $as_root apt-get update -qq >&2
-  DEBIAN_FRONTEND=noninteractive $as_root apt-get install -y -qq --no-install-recommends "${missing[@]}" >&2
+  DEBIAN_FRONTEND=noninteractive $as_root apt-get install -y -qq "${missing[@]}" >&2
 fi

@@ -1,0 +1,84 @@
+//! The library here, as a [`Side`]. Nothing is inlined into a benchmark, since
+//! nothing could be across a C boundary.
+
+use crate::{Form, Range, Report, Side};
+use x2u::frame::{self, Frame};
+use x2u::{Answer, Keeper, Ledger};
+
+/// The Rust library.
+pub struct Rust;
+
+fn number<T: Into<i64>>(answer: Answer<T>) -> i64 {
+    match answer {
+        Ok(answer) => answer.into(),
+        Err(refusal) => -i64::from(refusal.number()),
+    }
+}
+
+fn length(answer: Answer<usize>) -> i64 {
+    number(answer.map(|length| length as u32))
+}
+
+impl Side for Rust {
+    const NAME: &'static str = "rust";
+    type Keeper = Keeper;
+    type Ledger = Ledger;
+
+    #[inline(never)]
+    fn read(octets: &[u8]) -> i64 {
+        match frame::read(octets) {
+            Frame::Data { number, .. } => i64::from(number),
+            Frame::Status { report, ranges, .. } => {
+                let sums = ranges.map(|range| i64::from(range.start) + i64::from(range.end));
+                let sizes = i64::from(report.desired) + i64::from(report.minimum);
+                sums.sum::<i64>() + sizes + i64::from(report.highest)
+            }
+            Frame::Refused(refusal) => -i64::from(refusal.number()),
+        }
+    }
+
+    #[inline(never)]
+    fn write_data(form: Form, number: u32, buffer: &mut [u8]) -> i64 {
+        length(frame::write_data(form, number, buffer))
+    }
+
+    #[inline(never)]
+    fn write_status(form: Form, report: &Report, ranges: &[Range], buffer: &mut [u8]) -> i64 {
+        length(frame::write_status(form, report, ranges, buffer))
+    }
+
+    fn keeper(pdcp_bits: u32, first: u32, first_pdcp: u32) -> Keeper {
+        Keeper::open(pdcp_bits, first, first_pdcp).expect("benchmarks open well")
+    }
+
+    #[inline(never)]
+    fn arrive(keeper: &mut Keeper, number_: u32, pdcp: u32) -> i64 {
+        number(keeper.arrive(number_, pdcp))
+    }
+
+    #[inline(never)]
+    fn confirm(keeper: &mut Keeper, number_: u32) -> i64 {
+        number(keeper.confirm(number_).map(|()| 0_u32))
+    }
+
+    #[inline(never)]
+    fn status(keeper: &mut Keeper, buffer: &mut [u8]) -> i64 {
+        length(keeper.status(REPORT_SIZES.0, REPORT_SIZES.1, false, buffer))
+    }
+
+    fn ledger(pdcp_bits: u32, first: u32, first_pdcp: u32) -> Ledger {
+        Ledger::open(pdcp_bits, first, first_pdcp).expect("benchmarks open well")
+    }
+
+    #[inline(never)]
+    fn send(ledger: &mut Ledger, pdcp: u32) -> i64 {
+        number(ledger.send(pdcp))
+    }
+
+    #[inline(never)]
+    fn accept(ledger: &mut Ledger, octets: &[u8]) -> i64 {
+        number(ledger.accept(octets).map(|settled| settled.freed))
+    }
+}
+
+const REPORT_SIZES: (u32, u32) = (crate::REPORT.desired, crate::REPORT.minimum);

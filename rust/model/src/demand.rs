@@ -1,0 +1,390 @@
+//! Demand 3, checked by packet identity.
+//!
+//! Packet i is the i-th accepted send. Whoever plays a bearer inside these
+//! bounds tells a [`Watch`] of every call and its answer:
+//!
+//! * E1: refused sends count for nothing.
+//! * E2: an arrival that 9 or 10 doesn't refuse is a copy of some packet i < N
+//!   with N - 1 - i < M/2.
+//! * E3: each frame built reaches the master unchanged, once and in order, at
+//!   any later time; no other frame that the master would accept reaches it.
+//! * E4: both ends opened alike; every other call at any time, with any
+//!   arguments.
+//!
+//! Then, with R(k) the packets in the ranges of frames 1 to k and C(k) the
+//! packets confirmed when frame k was built, the watch checks that
+//!
+//! * (i) the ranges of all frames built, then the listed runs, expanded in
+//!   order, are exactly the packets declared lost, each once, in sending order;
+//! * (ii) the master accepts each frame;
+//! * (iii) after it accepts frame k, the packets freed so far are exactly
+//!   those i in C(k) for which every j < i is in C(k) or in R(k).
+//!
+//! "Declared lost" follows document 01's sentences on packet indexes; nothing
+//! here knows how the library keeps its state.
+
+use crate::Opening;
+use std::collections::VecDeque;
+use x2u::Refusal;
+use x2u::frame::Range;
+use x2u::ledger::{Entry, Fate as Held, Settled};
+
+/// What is wrong, in words.
+pub type Verdict = Result<(), String>;
+
+/// "Each number from the first on is open, received or lost."
+#[derive(Clone, Copy, Debug, PartialEq, Eq)]
+enum Fate {
+    Open,
+    Received,
+    Lost,
+}
+
+/// No frame yet.
+const NEVER: u32 = u32::MAX;
+
+/// A packet, for ever.
+#[derive(Clone, Copy, Debug)]
+struct Packet {
+    pdcp: u32,
+    fate: Fate,
+    /// The first frame k with this packet in C(k) or in R(k).
+    frame: u32,
+    taken: bool,
+}
+
+/// What has happened so far, in figures for a report.
+#[derive(Clone, Copy, Debug, Default, PartialEq, Eq)]
+pub struct Tally {
+    /// Packets declared lost.
+    pub lost: u64,
+    /// Lost packets reported in frames.
+    pub reported: u64,
+    /// Packets confirmed.
+    pub confirmed: u64,
+    /// Packets freed by the master.
+    pub freed: u64,
+    /// Packets taken from the master.
+    pub taken: u64,
+    /// Frames built.
+    pub built: u32,
+    /// Frames accepted.
+    pub accepted: u32,
+}
+
+/// The watch over one bearer.
+#[derive(Clone, Debug)]
+pub struct Watch {
+    opening: Opening,
+    packets: Vec<Packet>,
+    base: usize,
+    highest_accepted: Option<usize>,
+    /// Declared lost and in no frame yet, in sending order.
+    unreported: VecDeque<usize>,
+    /// Every packet before this one is in C(k) or R(k), k the frame accepted last.
+    settled: usize,
+    /// Nothing before this packet is held by the master; only saves time.
+    held_from: usize,
+    tally: Tally,
+}
+
+macro_rules! check {
+    ($holds:expr, $($words:tt)+) => {
+        if !$holds {
+            return Err(format!($($words)+));
+        }
+    };
+}
+
+impl Watch {
+    /// A bearer on which nothing has happened.
+    #[must_use]
+    pub fn new(opening: Opening) -> Self {
+        Self {
+            opening,
+            packets: Vec::new(),
+            base: 0,
+            highest_accepted: None,
+            unreported: VecDeque::new(),
+            settled: 0,
+            held_from: 0,
+            tally: Tally::default(),
+        }
+    }
+
+    /// N, the packets sent so far.
+    #[must_use]
+    pub fn sent_count(&self) -> usize {
+        self.packets.len()
+    }
+
+    /// Number and PDCP number of a packet.
+    #[must_use]
+    pub fn numbers(&self, packet: usize) -> (u32, u32) {
+        (self.opening.number(packet), self.packets[packet].pdcp)
+    }
+
+    /// The lowest packet that is neither received nor lost.
+    #[must_use]
+    pub fn base(&self) -> usize {
+        self.base
+    }
+
+    /// Whether a packet that is missing has a received one above it.
+    #[must_use]
+    pub fn has_gap(&self) -> bool {
+        self.highest_accepted > Some(self.base)
+    }
+
+    /// Whether a packet may still arrive within E2.
+    #[must_use]
+    pub fn may_arrive(&self, packet: usize) -> bool {
+        let newer = (self.packets.len() - 1 - packet) as u64;
+        newer < self.opening.numbers() / 2
+    }
+
+    /// The figures so far.
+    #[must_use]
+    pub fn tally(&self) -> Tally {
+        self.tally
+    }
+
+    /// A send was accepted.
+    pub fn sent(&mut self, pdcp: u32, number: u32) -> Verdict {
+        let packet = self.packets.len();
+        let expected = self.opening.number(packet);
+        check!(
+            number == expected,
+            "packet {packet} went out as {number}, not {expected}"
+        );
+        self.packets.push(Packet {
+            pdcp,
+            fate: Fate::Open,
+            frame: NEVER,
+            taken: false,
+        });
+        Ok(())
+    }
+
+    /// A copy of `packet` arrived.
+    pub fn arrived(&mut self, packet: usize, answer: Result<u32, Refusal>) -> Verdict {
+        if answer == Err(Refusal::Closed) {
+            return Ok(());
+        }
+        if self.packets[packet].fate != Fate::Open {
+            let stray = matches!(answer, Err(Refusal::Late | Refusal::Repeated));
+            check!(
+                stray,
+                "a further copy of packet {packet} was answered {answer:?}"
+            );
+            return Ok(());
+        }
+        check!(
+            answer.is_ok(),
+            "open packet {packet} was refused: {answer:?}"
+        );
+        self.packets[packet].fate = Fate::Received;
+        self.highest_accepted = self.highest_accepted.max(Some(packet));
+        // "each open number that is 256 or more below the arrival"
+        self.lost_below((packet + 1).saturating_sub(256), answer)
+    }
+
+    /// Expiry was called.
+    pub fn expired(&mut self, answer: Result<u32, Refusal>) -> Verdict {
+        match (answer, self.highest_accepted) {
+            (Err(Refusal::Closed), _) => Ok(()),
+            (_, Some(highest)) if self.base < highest => self.lost_below(highest, answer),
+            _ => {
+                let none = answer == Err(Refusal::NothingOpen);
+                check!(
+                    none,
+                    "expiry without an open number was answered {answer:?}"
+                );
+                Ok(())
+            }
+        }
+    }
+
+    /// A number below M was confirmed.
+    pub fn confirmed(&mut self, number: u32, answer: Result<(), Refusal>) -> Verdict {
+        if answer == Err(Refusal::Closed) {
+            return Ok(());
+        }
+        let frame = self.tally.built + 1;
+        let expected = self.unconfirmed(number);
+        match expected {
+            Some(packet) if answer.is_ok() => {
+                self.packets[packet].frame = frame;
+                self.tally.confirmed += 1;
+            }
+            None if answer == Err(Refusal::NotConfirmable) => {}
+            _ => {
+                return Err(format!(
+                    "confirm of {number} ({expected:?}) was answered {answer:?}"
+                ));
+            }
+        }
+        Ok(())
+    }
+
+    /// A frame with these ranges was built.
+    pub fn built(&mut self, ranges: impl IntoIterator<Item = Range>) -> Verdict {
+        self.tally.built += 1;
+        for range in ranges {
+            for number in self.expand(range) {
+                let lost = self.unreported.pop_front();
+                let named = lost.map(|packet| self.opening.number(packet));
+                check!(
+                    named == Some(number),
+                    "frame {} names {number}, but the next loss is {named:?}",
+                    self.tally.built
+                );
+                if let Some(packet) = lost {
+                    self.packets[packet].frame = self.tally.built;
+                    self.tally.reported += 1;
+                }
+            }
+        }
+        Ok(())
+    }
+
+    /// The listed runs at any moment.
+    pub fn listed(&self, runs: &[Range]) -> Verdict {
+        let listed = runs.iter().flat_map(|&run| self.expand(run));
+        let declared = self.unreported.iter();
+        check!(
+            listed.eq(declared.map(|&packet| self.opening.number(packet))),
+            "listed are {runs:?}, but declared lost and unreported are {:?}",
+            self.unreported
+        );
+        Ok(())
+    }
+
+    /// The next frame in order reached the master, which holds `entries` now.
+    pub fn accepted<'a>(
+        &mut self,
+        answer: Result<Settled, Refusal>,
+        entries: impl Iterator<Item = &'a Entry>,
+    ) -> Verdict {
+        let frame = self.tally.accepted + 1;
+        let settled =
+            answer.map_err(|refusal| format!("frame {frame} was refused: {refusal:?}"))?;
+        self.tally.accepted = frame;
+        let freed = self.settle(frame);
+        check!(
+            freed == settled.freed,
+            "frame {frame} freed {}, not {freed}",
+            settled.freed
+        );
+        self.tally.freed += u64::from(freed);
+        self.held(entries)
+    }
+
+    /// What the master holds at any moment is each packet that is neither
+    /// freed nor taken, lost if an accepted frame named it.
+    pub fn held<'a>(&mut self, entries: impl Iterator<Item = &'a Entry>) -> Verdict {
+        while self.held_from < self.settled && self.has_left(self.held_from) {
+            self.held_from += 1;
+        }
+        let expected = (self.held_from..self.packets.len())
+            .filter(|&packet| !self.has_left(packet))
+            .map(|packet| self.entry(packet));
+        let mut entries = entries.copied();
+        for entry in expected {
+            let held = entries.next();
+            check!(
+                held == Some(entry),
+                "the master holds {held:?}, not {entry:?}"
+            );
+        }
+        let more = entries.next();
+        check!(more.is_none(), "the master still holds {more:?}");
+        Ok(())
+    }
+
+    /// Take was called, on a closed master or an open one.
+    pub fn taken(&mut self, closed: bool, answer: Result<Entry, Refusal>) -> Verdict {
+        let oldest = (self.held_from..self.packets.len())
+            .filter(|&packet| !self.has_left(packet))
+            .find(|&packet| closed || self.entry(packet).fate == Held::Lost);
+        let expected = oldest
+            .map(|packet| self.entry(packet))
+            .ok_or(Refusal::NothingToTake);
+        check!(answer == expected, "take gave {answer:?}, not {expected:?}");
+        if let Some(packet) = oldest {
+            self.packets[packet].taken = true;
+            self.tally.taken += 1;
+        }
+        Ok(())
+    }
+
+    /// Declares lost each open packet below `mark`, as `answer` should say.
+    fn lost_below(&mut self, mark: usize, answer: Result<u32, Refusal>) -> Verdict {
+        let mut lost = 0;
+        for packet in self.base..mark {
+            if self.packets[packet].fate == Fate::Open {
+                self.packets[packet].fate = Fate::Lost;
+                self.unreported.push_back(packet);
+                lost += 1;
+            }
+        }
+        while let Some(packet) = self.packets.get(self.base)
+            && packet.fate != Fate::Open
+        {
+            self.base += 1;
+        }
+        self.tally.lost += u64::from(lost);
+        check!(
+            answer == Ok(lost),
+            "{lost} became lost, but the answer was {answer:?}"
+        );
+        Ok(())
+    }
+
+    /// The packet that a confirm of `number` may name: the newest of that
+    /// number, if it is received, before base and unconfirmed.
+    fn unconfirmed(&self, number: u32) -> Option<usize> {
+        let turn = self.opening.numbers() as usize;
+        let oldest = self.packets.len().saturating_sub(turn);
+        let packet = self.opening.index_from(oldest, number);
+        let confirmable = packet < self.base
+            && self.packets[packet].fate == Fate::Received
+            && self.packets[packet].frame == NEVER;
+        confirmable.then_some(packet)
+    }
+
+    /// Moves `settled` over all packets in C(frame) or R(frame) and answers how
+    /// many of them are freed by that.
+    fn settle(&mut self, frame: u32) -> u32 {
+        let mut freed = 0;
+        while let Some(packet) = self.packets.get(self.settled)
+            && packet.frame <= frame
+        {
+            freed += u32::from(packet.fate == Fate::Received);
+            self.settled += 1;
+        }
+        freed
+    }
+
+    fn has_left(&self, packet: usize) -> bool {
+        let freed = packet < self.settled && self.packets[packet].fate == Fate::Received;
+        freed || self.packets[packet].taken
+    }
+
+    fn entry(&self, packet: usize) -> Entry {
+        let known = self.packets[packet];
+        let named = known.fate == Fate::Lost && known.frame <= self.tally.accepted;
+        Entry {
+            number: self.opening.number(packet),
+            pdcp: known.pdcp,
+            fate: if named { Held::Lost } else { Held::Waiting },
+        }
+    }
+
+    fn expand(&self, range: Range) -> impl Iterator<Item = u32> + use<> {
+        let modulus = self.opening.numbers();
+        let start = u64::from(range.start);
+        let count = (u64::from(range.end) + modulus - start) % modulus + 1;
+        (start..start + count).map(move |number| (number % modulus) as u32)
+    }
+}

@@ -1,0 +1,215 @@
+//! The master's rule, packet by packet.
+
+use crate::Opening;
+use x2u::Refusal;
+use x2u::frame::{Range, Report};
+
+/// "Each accepted send is now waiting, lost, freed or taken."
+#[derive(Clone, Copy, Debug, PartialEq, Eq)]
+pub enum Fate {
+    /// Not settled by any status.
+    Waiting,
+    /// Named lost by a status.
+    Lost,
+    /// Delivered.
+    Freed,
+    /// Given out again.
+    Taken,
+}
+
+/// A packet that was sent; its PDCP number counts on without rolling over.
+#[derive(Clone, Copy, Debug)]
+struct Packet {
+    pdcp: u64,
+    fate: Fate,
+}
+
+/// The master's end.
+#[derive(Clone, Debug)]
+pub struct Master {
+    opening: Opening,
+    packets: Vec<Packet>,
+    highest: u64,
+    last_sent: u64,
+    sizes: (u32, u32),
+    closed: bool,
+}
+
+impl Master {
+    /// A fresh end.
+    #[must_use]
+    pub fn open(opening: Opening) -> Self {
+        // One turn ahead, so that f - 1 is never below zero.
+        let before_first = opening.pdcps() + opening.first_pdcp - 1;
+        Self {
+            opening,
+            packets: Vec::new(),
+            highest: before_first,
+            last_sent: before_first,
+            sizes: (0, 0),
+            closed: false,
+        }
+    }
+
+    /// Send of a PDCP number.
+    pub fn send(&mut self, pdcp: u32) -> Result<u32, Refusal> {
+        let pdcps = self.opening.pdcps();
+        if self.closed {
+            return Err(Refusal::Closed);
+        }
+        if u64::from(pdcp) >= pdcps {
+            return Err(Refusal::NumberTooLarge);
+        }
+        let absolute = (self.highest..)
+            .find(|candidate| candidate % pdcps == u64::from(pdcp))
+            .unwrap_or_default();
+        if absolute <= self.last_sent || absolute - self.highest >= pdcps / 2 {
+            return Err(Refusal::PdcpOrder);
+        }
+        if self.held().len() >= 512 {
+            return Err(Refusal::LedgerFull);
+        }
+        self.packets.push(Packet {
+            pdcp: absolute,
+            fate: Fate::Waiting,
+        });
+        self.last_sent = absolute;
+        Ok(self.opening.number(self.packets.len() - 1))
+    }
+
+    /// A status of this bearer's type that was read without refusal. Answers
+    /// how many were freed and how many became lost.
+    pub fn accept(&mut self, report: &Report, ranges: &[Range]) -> Result<(u32, u32), Refusal> {
+        if self.closed {
+            return Err(Refusal::Closed);
+        }
+        if u64::from(report.highest) >= self.opening.pdcps() {
+            return Err(Refusal::HighestOutside);
+        }
+        let named = self.named(ranges).ok_or(Refusal::RangesNotWaiting)?;
+        let through = self.through(report.highest, &named)?;
+
+        for &index in &named {
+            self.packets[index].fate = Fate::Lost;
+        }
+        let mut freed = 0;
+        for packet in &mut self.packets[..through] {
+            if packet.fate == Fate::Waiting {
+                packet.fate = Fate::Freed;
+                freed += 1;
+            }
+        }
+        if let Some(last) = through.checked_sub(1) {
+            self.highest = self.packets[last].pdcp;
+        }
+        self.sizes = (report.desired, report.minimum);
+        self.closed = report.is_final;
+        Ok((freed, named.len() as u32))
+    }
+
+    /// Take: the packet's two numbers.
+    pub fn take(&mut self) -> Result<(u32, u32), Refusal> {
+        let takes = |index: &usize| self.closed || self.packets[*index].fate == Fate::Lost;
+        let index = self.held().into_iter().find(takes);
+        let index = index.ok_or(Refusal::NothingToTake)?;
+        self.packets[index].fate = Fate::Taken;
+        let (number, pdcp, _) = self.entry(index);
+        Ok((number, pdcp))
+    }
+
+    /// The packets still held, in the order they were sent in.
+    #[must_use]
+    pub fn held(&self) -> Vec<usize> {
+        let held = |index: &usize| matches!(self.packets[*index].fate, Fate::Waiting | Fate::Lost);
+        (0..self.packets.len()).filter(held).collect()
+    }
+
+    /// Number, PDCP number and fate of a packet.
+    #[must_use]
+    pub fn entry(&self, index: usize) -> (u32, u32, Fate) {
+        let packet = self.packets[index];
+        (
+            self.opening.number(index),
+            self.pdcp_number(packet.pdcp),
+            packet.fate,
+        )
+    }
+
+    /// H and the last PDCP number sent.
+    #[must_use]
+    pub fn pdcp_marks(&self) -> (u32, u32) {
+        (
+            self.pdcp_number(self.highest),
+            self.pdcp_number(self.last_sent),
+        )
+    }
+
+    /// Whether a final status was accepted.
+    #[must_use]
+    pub fn is_closed(&self) -> bool {
+        self.closed
+    }
+
+    /// Desired and minimum size.
+    #[must_use]
+    pub fn sizes(&self) -> (u32, u32) {
+        self.sizes
+    }
+
+    /// How many packets met that fate.
+    #[must_use]
+    pub fn count(&self, fate: Fate) -> usize {
+        let of_fate = |packet: &&Packet| packet.fate == fate;
+        self.packets.iter().filter(of_fate).count()
+    }
+
+    /// How many packets were sent.
+    #[must_use]
+    pub fn sent(&self) -> usize {
+        self.packets.len()
+    }
+
+    fn pdcp_number(&self, absolute: u64) -> u32 {
+        (absolute % self.opening.pdcps()) as u32
+    }
+
+    fn waiting(&self) -> impl Iterator<Item = usize> {
+        let waits = |index: &usize| self.packets[*index].fate == Fate::Waiting;
+        (0..self.packets.len()).filter(waits)
+    }
+
+    /// The packets that the ranges name, expanded in order, if they are
+    /// "strictly rising numbers of waiting entries".
+    fn named(&self, ranges: &[Range]) -> Option<Vec<usize>> {
+        let mut named: Vec<usize> = Vec::new();
+        for range in ranges {
+            let mut number = range.start;
+            loop {
+                let index = self
+                    .waiting()
+                    .find(|&index| self.opening.number(index) == number)?;
+                if named.last().is_some_and(|&last| index <= last) {
+                    return None;
+                }
+                named.push(index);
+                if number == range.end {
+                    break;
+                }
+                number = ((u64::from(number) + 1) % self.opening.numbers()) as u32;
+            }
+        }
+        Some(named)
+    }
+
+    /// How many packets, from the first ever, the frame's highest settles.
+    fn through(&self, highest: u32, named: &[usize]) -> Result<usize, Refusal> {
+        if highest == self.pdcp_number(self.highest) {
+            return Ok(0);
+        }
+        self.waiting()
+            .filter(|index| !named.contains(index))
+            .find(|&index| self.pdcp_number(self.packets[index].pdcp) == highest)
+            .map(|index| index + 1)
+            .ok_or(Refusal::HighestNotWaiting)
+    }
+}

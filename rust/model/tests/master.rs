@@ -1,0 +1,299 @@
+//! The library's ledger against the naive one, on calls of every kind.
+
+mod common;
+
+use common::openings;
+use model::master::Fate as Told;
+use model::{Master, Opening};
+use proptest::collection::vec;
+use proptest::prelude::*;
+use proptest::sample::Index;
+use x2u::frame::{self, Frame, LONGEST, Range, Report};
+use x2u::ledger::Fate;
+use x2u::{Form, Ledger, Refusal};
+
+/// Where a status gets its highest from.
+#[derive(Clone, Debug)]
+enum Highest {
+    Last,
+    OfEntry(Index),
+    Any(u32),
+}
+
+/// How the ranges of a status are spoilt.
+#[derive(Clone, Debug)]
+enum Spoil {
+    Nothing,
+    Swap(Index, Index),
+    Repeat(Index),
+    Shift(Index, i32, i32),
+}
+
+#[derive(Clone, Debug)]
+enum Call {
+    /// Sends with `skip` PDCP numbers left out before each.
+    Send {
+        skip: u32,
+        count: u32,
+    },
+    /// A send near half the circle ahead of H.
+    SendHalfway {
+        off: i32,
+    },
+    SendAny(u32),
+    /// A status naming entries from `from` on, `run` of every `period`.
+    Accept {
+        highest: Highest,
+        from: Index,
+        run: usize,
+        period: usize,
+        ranges: usize,
+        spoil: Spoil,
+        is_final: bool,
+        form: Form,
+    },
+    AcceptAny(Vec<u8>),
+    Take(usize),
+}
+
+fn calls() -> impl Strategy<Value = Call> {
+    prop_oneof![
+        6 => (prop_oneof![4 => Just(0_u32), 1 => 0_u32..9], 1_u32..90)
+            .prop_map(|(skip, count)| Call::Send { skip, count }),
+        1 => (0_u32..1, 100_u32..400).prop_map(|(skip, count)| Call::Send { skip, count }),
+        2 => (-3_i32..3).prop_map(|off| Call::SendHalfway { off }),
+        1 => any::<u32>().prop_map(Call::SendAny),
+        10 => accepts(),
+        1 => vec(any::<u8>(), 0..30).prop_map(Call::AcceptAny),
+        3 => (1_usize..60).prop_map(Call::Take),
+    ]
+}
+
+fn accepts() -> impl Strategy<Value = Call> {
+    let highest = prop_oneof![
+        3 => Just(Highest::Last),
+        6 => any::<Index>().prop_map(Highest::OfEntry),
+        1 => (0_u32..40_000).prop_map(Highest::Any),
+    ];
+    let spoil = prop_oneof![
+        6 => Just(Spoil::Nothing),
+        1 => (any::<Index>(), any::<Index>()).prop_map(|(a, b)| Spoil::Swap(a, b)),
+        1 => any::<Index>().prop_map(Spoil::Repeat),
+        1 => (any::<Index>(), -2_i32..3, -2_i32..3).prop_map(|(i, a, b)| Spoil::Shift(i, a, b)),
+    ];
+    let form = prop_oneof![30 => Just(Form::Short), 1 => Just(Form::Long)];
+    let list = (
+        any::<Index>(),
+        1_usize..4,
+        1_usize..9,
+        prop_oneof![0_usize..5, 0_usize..163],
+    );
+    (highest, list, spoil, prop::bool::weighted(0.02), form).prop_map(
+        |(highest, (from, run, period, ranges), spoil, is_final, form)| Call::Accept {
+            highest,
+            from,
+            run,
+            period,
+            ranges,
+            spoil,
+            is_final,
+            form,
+        },
+    )
+}
+
+struct Test {
+    opening: Opening,
+    ledger: Ledger,
+    model: Master,
+}
+
+impl Test {
+    fn new(opening: Opening) -> Self {
+        let (first, first_pdcp) = (opening.first as u32, opening.first_pdcp as u32);
+        Self {
+            opening,
+            ledger: Ledger::open(opening.bits, first, first_pdcp).unwrap(),
+            model: Master::open(opening),
+        }
+    }
+
+    fn make(&mut self, call: &Call) -> Result<(), TestCaseError> {
+        match call {
+            Call::Send { skip, count } => {
+                for _ in 0..*count {
+                    self.send(self.pdcp(self.ledger.last_sent(), i64::from(*skip) + 1))?;
+                }
+            }
+            Call::SendHalfway { off } => {
+                let half = self.opening.pdcps() as i64 / 2;
+                self.send(self.pdcp(self.ledger.highest(), half + i64::from(*off)))?;
+            }
+            Call::SendAny(pdcp) => self.send(*pdcp)?,
+            Call::Accept { .. } => {
+                let octets = self.status(call);
+                self.accept(&octets)?;
+            }
+            Call::AcceptAny(octets) => self.accept(octets)?,
+            Call::Take(count) => {
+                for _ in 0..*count {
+                    let taken = self.ledger.take().map(|entry| (entry.number, entry.pdcp));
+                    prop_assert_eq!(taken, self.model.take());
+                }
+            }
+        }
+        self.compare()
+    }
+
+    fn pdcp(&self, from: u32, steps: i64) -> u32 {
+        (i64::from(from) + steps).rem_euclid(self.opening.pdcps() as i64) as u32
+    }
+
+    fn send(&mut self, pdcp: u32) -> Result<(), TestCaseError> {
+        prop_assert_eq!(self.ledger.send(pdcp), self.model.send(pdcp));
+        Ok(())
+    }
+
+    fn accept(&mut self, octets: &[u8]) -> Result<(), TestCaseError> {
+        let answer = self.ledger.accept(octets);
+        let ours = if self.opening.bits == 18 {
+            Form::Long
+        } else {
+            Form::Short
+        };
+        let expected = match frame::read(octets) {
+            _ if self.model.is_closed() => Err(Refusal::Closed),
+            Frame::Refused(refusal) => Err(refusal),
+            Frame::Status {
+                form,
+                report,
+                ranges,
+            } if form == ours => self.model.accept(&report, &ranges.collect::<Vec<_>>()),
+            _ => Err(Refusal::NotOurStatus),
+        };
+        prop_assert_eq!(
+            answer.map(|settled| (settled.freed, settled.lost)),
+            expected
+        );
+        Ok(())
+    }
+
+    fn status(&self, call: &Call) -> Vec<u8> {
+        let Call::Accept {
+            highest,
+            from,
+            run,
+            period,
+            ranges,
+            spoil,
+            is_final,
+            form,
+        } = call
+        else {
+            unreachable!();
+        };
+        let entries: Vec<_> = self.ledger.entries().copied().collect();
+        let highest = match highest {
+            Highest::OfEntry(index) if !entries.is_empty() => index.get(&entries).pdcp,
+            Highest::Any(pdcp) => *pdcp,
+            _ => self.ledger.highest(),
+        };
+        let mut list: Vec<Range> = Vec::new();
+        let start = if entries.is_empty() {
+            0
+        } else {
+            from.index(entries.len())
+        };
+        let waiting = entries[start..].iter().filter(|e| e.fate == Fate::Waiting);
+        for (i, entry) in waiting.enumerate().filter(|(i, _)| i % period < *run) {
+            match list.last_mut() {
+                Some(last) if i % period != 0 => last.end = entry.number,
+                _ => list.push(Range {
+                    start: entry.number,
+                    end: entry.number,
+                }),
+            }
+        }
+        list.truncate(*ranges);
+        self.spoil(&mut list, spoil);
+        // Both forms are tried on short bearers; the other form must be refused.
+        let form = if self.opening.bits == 18 {
+            Form::Long
+        } else {
+            *form
+        };
+        let report = Report {
+            highest: highest.min(form.largest_highest()),
+            desired: list.len() as u32,
+            minimum: 5,
+            is_final: *is_final,
+        };
+        let mut buffer = [0; LONGEST];
+        let length = frame::write_status(form, &report, &list, &mut buffer).unwrap();
+        buffer[..length].to_vec()
+    }
+
+    fn spoil(&self, list: &mut Vec<Range>, spoil: &Spoil) {
+        if list.is_empty() {
+            return;
+        }
+        let shifted = |number: u32, by: i32| {
+            (i64::from(number) + i64::from(by)).rem_euclid(self.opening.numbers() as i64) as u32
+        };
+        match spoil {
+            Spoil::Nothing => {}
+            Spoil::Swap(a, b) => {
+                let (a, b) = (a.index(list.len()), b.index(list.len()));
+                list.swap(a, b);
+            }
+            Spoil::Repeat(index) => {
+                let again = *index.get(list);
+                list.truncate(161);
+                list.insert(index.index(list.len()), again);
+            }
+            Spoil::Shift(index, start, end) => {
+                let place = index.index(list.len());
+                list[place].start = shifted(list[place].start, *start);
+                list[place].end = shifted(list[place].end, *end);
+            }
+        }
+    }
+
+    fn compare(&self) -> Result<(), TestCaseError> {
+        let sizes = (self.ledger.desired(), self.ledger.minimum());
+        prop_assert_eq!(sizes, self.model.sizes());
+        let marks = (self.ledger.highest(), self.ledger.last_sent());
+        prop_assert_eq!(marks, self.model.pdcp_marks());
+        let fates = |fate| match fate {
+            Fate::Waiting => Told::Waiting,
+            Fate::Lost => Told::Lost,
+        };
+        let entries: Vec<_> = self
+            .ledger
+            .entries()
+            .map(|e| (e.number, e.pdcp, fates(e.fate)))
+            .collect();
+        let expected: Vec<_> = self
+            .model
+            .held()
+            .into_iter()
+            .map(|index| self.model.entry(index))
+            .collect();
+        prop_assert_eq!(entries, expected);
+        let fates = [Told::Waiting, Told::Lost, Told::Freed, Told::Taken];
+        let all: usize = fates.into_iter().map(|fate| self.model.count(fate)).sum();
+        prop_assert_eq!(all, self.model.sent());
+        Ok(())
+    }
+}
+
+proptest! {
+    #![proptest_config(ProptestConfig { cases: 200, ..ProptestConfig::default() })]
+    #[test]
+    fn the_ledger_is_the_naive_one(opening in openings(6), calls in vec(calls(), 1..80)) {
+        let mut test = Test::new(opening);
+        for call in &calls {
+            test.make(call)?;
+        }
+    }
+}

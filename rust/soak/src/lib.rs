@@ -1,0 +1,12 @@
+//! What the `compare` and `ramp` programs are made of.
+
+pub mod compare;
+pub mod frames;
+pub mod moods;
+pub mod options;
+pub mod process;
+pub mod ramp;
+pub mod rng;
+pub mod script;
+pub mod shrink;
+pub mod table;

@@ -1,0 +1,134 @@
+//! Stores filled to their limits and beyond, and the far side of the circle.
+
+use crate::script::Script;
+use x2u::Form;
+
+/// Every second number arrives, until no more runs can be listed; then
+/// statuses, in buffers long enough and not.
+pub(super) fn runs(script: &mut Script) {
+    let runs = script.rng.pick(&[100, 250, 300, 350, 420]);
+    for _ in 0..runs {
+        let ahead = script.rng.pick(&[1, 1, 1, 1, 2, 3, 256, 258]);
+        script.arrive_ahead(ahead);
+        if script.rng.chance(60) {
+            script.expire();
+        }
+    }
+    // With all confirmed, only a run left out holds the highest back.
+    let percent = script.rng.pick(&[90, 100]);
+    confirm_some(script, percent);
+    for _ in 0..script.rng.within(1..6) {
+        short_rooms(script);
+        script.status(false, 1_018);
+        script.expire();
+    }
+}
+
+/// Statuses that are mostly refused: final too early, or in too short a buffer.
+fn short_rooms(script: &mut Script) {
+    for _ in 0..script.rng.within(0..15) {
+        let runs = script.ends.keeper.listed_runs().len();
+        let is_final = runs > 162 && script.rng.chance(50);
+        let length = match script.ends.bearer.form {
+            Form::Short => 12 + 4 * runs.min(162),
+            Form::Long => 13 + 6 * runs.min(162),
+        };
+        let room = match script.rng.within(0..3) {
+            0 => script.rng.place(1_018),
+            _ => length - 2 + script.rng.place(6),
+        };
+        script.status(is_final, room);
+    }
+}
+
+/// In-order packets that nobody reports, until no more records are held.
+pub(super) fn records(script: &mut Script) {
+    for _ in 0..script.rng.pick(&[200, 512, 560]) {
+        let ahead = if script.rng.once_in(12) {
+            script.rng.within(0..6)
+        } else {
+            0
+        };
+        script.arrive_ahead(ahead);
+    }
+    let percent = script.rng.pick(&[20, 100]);
+    confirm_some(script, percent);
+    if script.rng.chance(70) {
+        script.status(false, 1_018);
+    }
+}
+
+fn confirm_some(script: &mut Script, percent: u32) {
+    let numbers: Vec<u32> = script
+        .ends
+        .keeper
+        .records()
+        .map(|record| record.number)
+        .collect();
+    for number in numbers {
+        if script.rng.chance(percent) {
+            script.confirm(number);
+        }
+    }
+}
+
+/// Arrivals around the window, around half the circle from base and around
+/// half the circle from the oldest number held.
+pub(super) fn jumps(script: &mut Script) {
+    for _ in 0..script.rng.within(5..60) {
+        let half = script.ends.bearer.numbers().half();
+        let near = script.rng.within(0..5);
+        let ahead = match script.rng.within(0..6) {
+            0 => 254 + near,
+            1 => half - 2 + near,
+            2 => (half - 2 + near).saturating_sub(floor_to_base(script)),
+            3 => script.rng.within(0..600),
+            4 => script.rng.within(0..half),
+            _ => script.rng.within(0..2 * half),
+        };
+        script.arrive_ahead(ahead);
+        match script.rng.within(0..8) {
+            0 => script.expire(),
+            1 => script.status(false, 1_018),
+            2 => confirm_some(script, 100),
+            _ => {}
+        }
+    }
+}
+
+fn floor_to_base(script: &Script) -> u32 {
+    let (circle, keeper) = (script.ends.bearer.numbers(), &script.ends.keeper);
+    let behind = |number| circle.forward(number, keeper.base());
+    let run = keeper.listed_runs().first().map(|run| behind(run.start));
+    let record = keeper.records().next().map(|record| behind(record.number));
+    let before_base = |&behind: &u32| behind <= circle.half();
+    run.into_iter()
+        .chain(record)
+        .filter(before_base)
+        .max()
+        .unwrap_or(0)
+}
+
+/// Sends until the ledger is full, with PDCP numbers at the edge of their
+/// order.
+pub(super) fn ledger(script: &mut Script) {
+    for _ in 0..script.rng.pick(&[100, 500, 530]) {
+        let skip = if script.rng.once_in(60) {
+            script.rng.within(0..40)
+        } else {
+            0
+        };
+        script.send_next(skip);
+    }
+    for _ in 0..script.rng.within(0..12) {
+        let (pdcp, ledger) = (script.ends.bearer.pdcp, &script.ends.ledger);
+        let near = script.rng.within(0..5);
+        let number = match script.rng.within(0..4) {
+            0 => pdcp.step(ledger.highest(), pdcp.half() - 2 + near),
+            1 => pdcp.step(ledger.highest(), near),
+            2 => pdcp.step(ledger.last_sent(), near),
+            _ => script.rng.word() % pdcp.size(),
+        };
+        script.send(number);
+    }
+}

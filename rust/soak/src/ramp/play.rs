@@ -1,0 +1,365 @@
+//! Playing the ramp, millisecond by millisecond.
+
+use super::Settings;
+use super::bench::{Bench, Trouble, must_wait};
+use super::figures::Figures;
+use super::link::Mismatch;
+use super::weather::Weather;
+use crate::rng::Rng;
+use crate::table::Table;
+use model::Opening;
+use model::demand::Tally;
+use std::cmp::Reverse;
+use std::collections::{BinaryHeap, VecDeque};
+use std::io;
+use x2u::frame::LONGEST;
+
+/// A gap this old, in milliseconds, is given up.
+const GAP: u64 = 30;
+/// A status is built at least this often, in milliseconds.
+const STATUS: u64 = 40;
+/// And after as many arrivals.
+const STATUS_ARRIVALS: u32 = 120;
+/// Both ends are shown after as many statuses.
+const SHOW: u32 = 20;
+
+/// How a ramp ended.
+pub struct Ending {
+    /// Its figures.
+    pub figures: Figures,
+    /// The watch's figures.
+    pub tally: Tally,
+    /// Packets sent.
+    pub sent: u64,
+    /// Entries left in the ledger when all was over.
+    pub left: u64,
+    /// Calls made on the program.
+    pub calls: u64,
+    /// Refusals met.
+    pub table: Table,
+    /// What went wrong, if anything did.
+    pub trouble: Option<Trouble>,
+    /// The first answer that differed, if one did.
+    pub mismatch: Option<Mismatch>,
+}
+
+/// Packets with the times they are due at.
+type Queue = BinaryHeap<Reverse<(u64, usize)>>;
+
+struct Play {
+    bench: Bench,
+    opening: Opening,
+    weather: Weather,
+    rng: Rng,
+    figures: Figures,
+    now: u64,
+    rate: u64,
+    /// Packets that should have been sent by now, times 1,000.
+    due: u64,
+    next_pdcp: u64,
+    road: Queue,
+    handset: Queue,
+    frames: VecDeque<u64>,
+    gap_since: Option<(usize, u64)>,
+    last_status: u64,
+    arrivals: u32,
+    newest_arrived: usize,
+}
+
+/// Plays a ramp, if the program can be started. `progress` is told every ten
+/// seconds of it.
+pub fn play(settings: &Settings, progress: impl FnMut(u64, &Figures, Tally)) -> io::Result<Ending> {
+    let opening = settings.opening();
+    let bench = Bench::open(settings, opening)?;
+    Ok(Play::new(settings, opening, bench).run(settings, progress))
+}
+
+impl Play {
+    fn new(settings: &Settings, opening: Opening, bench: Bench) -> Self {
+        let mut rng = Rng::new(settings.seed);
+        let weather_rng = Rng::new(rng.bits());
+        Self {
+            bench,
+            opening,
+            weather: Weather::new(settings.rate, settings.seconds, weather_rng),
+            rng,
+            figures: Figures::default(),
+            now: 0,
+            rate: u64::from(settings.rate),
+            due: 0,
+            next_pdcp: opening.first_pdcp,
+            road: Queue::new(),
+            handset: Queue::new(),
+            frames: VecDeque::new(),
+            gap_since: None,
+            last_status: 0,
+            arrivals: 0,
+            newest_arrived: 0,
+        }
+    }
+
+    fn run(mut self, settings: &Settings, progress: impl FnMut(u64, &Figures, Tally)) -> Ending {
+        let trouble = self.warm_up(settings, progress).err();
+        let sent = self.bench.pair.watch.sent_count() as u64;
+        let calls = self.bench.calls;
+        let (pair, table, mismatch) = self.bench.finish();
+        Ending {
+            figures: self.figures,
+            tally: pair.tally(),
+            sent,
+            left: pair.ledger.entry_count() as u64,
+            calls,
+            table,
+            trouble,
+            mismatch,
+        }
+    }
+
+    fn warm_up(
+        &mut self,
+        settings: &Settings,
+        mut progress: impl FnMut(u64, &Figures, Tally),
+    ) -> Result<(), Trouble> {
+        let whole = u64::from(settings.seconds) * 1_000;
+        while self.now < whole {
+            self.millisecond()?;
+            if self.now.is_multiple_of(1_000) {
+                self.figures.second(&self.bench.pair);
+            }
+            if self.now.is_multiple_of(10_000) {
+                progress(self.now / 1_000, &self.figures, self.bench.pair.tally());
+            }
+        }
+        self.wind_up()
+    }
+
+    fn millisecond(&mut self) -> Result<(), Trouble> {
+        self.now += 1;
+        let fill = self.bench.pair.ledger.entry_count();
+        self.weather.advance(self.now, fill);
+        self.sends()?;
+        self.arrive_due()?;
+        self.expire_old_gap()?;
+        self.figures.look(&self.bench.pair, self.weather.troubles());
+        self.confirm_due()?;
+        self.build_status()?;
+        self.deliver_due()?;
+        if self.now.is_multiple_of(10) && !self.weather.leaves_losses() {
+            self.take_some(60)?;
+        }
+        Ok(())
+    }
+
+    fn sends(&mut self) -> Result<(), Trouble> {
+        // What can't be sent at once is made up for, but not without end.
+        self.due = (self.due + self.rate).min(1_000 * (20 + self.rate / 50));
+        if self.weather.holds_sending() {
+            return Ok(());
+        }
+        while self.due >= 1_000 {
+            let pdcp = (self.next_pdcp % self.opening.pdcps()) as u32;
+            match self.bench.send(pdcp)? {
+                Ok(number) => self.went_out(number, pdcp),
+                Err(refusal) if must_wait(refusal) => {
+                    self.figures.waits += 1;
+                    return Ok(());
+                }
+                Err(refusal) => {
+                    return Err(Trouble::Demand(format!("a send was refused: {refusal:?}")));
+                }
+            }
+            self.due -= 1_000;
+        }
+        Ok(())
+    }
+
+    fn went_out(&mut self, number: u32, pdcp: u32) {
+        self.figures.sent(number, pdcp, self.now);
+        // A few packets go over the master's own radio and use up their numbers.
+        let skipped = if self.rng.once_in(200) {
+            self.rng.within(1..4)
+        } else {
+            0
+        };
+        self.next_pdcp += 1 + u64::from(skipped);
+        self.figures.own_radio += u64::from(skipped);
+        let packet = self.bench.pair.watch.sent_count() - 1;
+        if self.weather.drops() || self.drops_over_rollover(number) {
+            self.figures.dropped += 1;
+            return;
+        }
+        self.road
+            .push(Reverse((self.now + self.weather.road(), packet)));
+        if self.weather.copies() {
+            let later = self.now + 10 * self.weather.road();
+            self.road.push(Reverse((later, packet)));
+            self.figures.copies += 1;
+        }
+    }
+
+    /// A short burst falls on every second rollover of the X2-U numbers, so
+    /// that a range runs over it.
+    fn drops_over_rollover(&self, number: u32) -> bool {
+        let (number, size) = (u64::from(number), self.opening.numbers());
+        let met = self.figures.numbers.times.len();
+        // Just after a rollover, it is among those met.
+        let burst_now = met.is_multiple_of(2) != (number < 5);
+        burst_now && (number < 5 || number >= size - 5)
+    }
+
+    fn arrive_due(&mut self) -> Result<(), Trouble> {
+        while let Some(packet) = pop_due(&mut self.road, self.now) {
+            self.arrive(packet)?;
+        }
+        if self.rng.once_in(400) {
+            self.arrive_old_copy()?;
+        }
+        Ok(())
+    }
+
+    fn arrive(&mut self, packet: usize) -> Result<(), Trouble> {
+        if !self.bench.pair.watch.may_arrive(packet) {
+            return Ok(());
+        }
+        match self.bench.arrive(packet)? {
+            Ok(_) => {
+                let due = self.now + self.weather.handset();
+                self.handset.push(Reverse((due, packet)));
+                self.figures.overtaken += u64::from(packet < self.newest_arrived);
+                self.newest_arrived = self.newest_arrived.max(packet);
+                self.arrivals += 1;
+            }
+            Err(_) => self.figures.strays += 1,
+        }
+        Ok(())
+    }
+
+    /// A copy from long ago, up to the oldest that may still arrive.
+    fn arrive_old_copy(&mut self) -> Result<(), Trouble> {
+        let sent = self.bench.pair.watch.sent_count();
+        let oldest = sent.saturating_sub(self.opening.numbers() as usize / 2);
+        if sent > 0 {
+            let exactly = self.rng.once_in(4);
+            let age = if exactly {
+                0
+            } else {
+                self.rng.place(sent - oldest)
+            };
+            self.figures.copies += 1;
+            self.arrive(oldest + age)?;
+        }
+        Ok(())
+    }
+
+    fn expire_old_gap(&mut self) -> Result<(), Trouble> {
+        let watch = &self.bench.pair.watch;
+        self.gap_since = match self.gap_since {
+            _ if !watch.has_gap() => None,
+            Some((base, since)) if base == watch.base() => Some((base, since)),
+            _ => Some((watch.base(), self.now)),
+        };
+        if self
+            .gap_since
+            .is_some_and(|(_, since)| self.now - since >= GAP)
+        {
+            let _ = self.bench.expire()?;
+        }
+        Ok(())
+    }
+
+    fn confirm_due(&mut self) -> Result<(), Trouble> {
+        if self.weather.handset_sleeps() {
+            return Ok(());
+        }
+        while let Some(packet) = pop_due(&mut self.handset, self.now) {
+            let in_order = packet < self.bench.pair.watch.base();
+            // A packet above a gap has to wait; a hasty handset is refused.
+            if in_order || self.rng.once_in(100) {
+                let _ = self.bench.confirm(packet)?;
+            }
+            if !in_order {
+                self.handset.push(Reverse((self.now + 3, packet)));
+            }
+        }
+        Ok(())
+    }
+
+    fn build_status(&mut self) -> Result<(), Trouble> {
+        let waited = self.now - self.last_status >= STATUS;
+        if self.weather.withholds_statuses() || !(waited || self.arrivals >= STATUS_ARRIVALS) {
+            return Ok(());
+        }
+        self.status(false)?;
+        // With runs left out, the next status follows at once.
+        while !self.bench.pair.keeper.listed_runs().is_empty() {
+            self.status(false)?;
+        }
+        Ok(())
+    }
+
+    fn status(&mut self, is_final: bool) -> Result<(), Trouble> {
+        let desired = self.rng.within(0..2_000_000);
+        if self.rng.once_in(30) {
+            // The host's buffer is too short, and it tries again.
+            let room = self.rng.place(14);
+            let _ = self.bench.status(desired, is_final, room)?;
+        }
+        if let Ok(octets) = self.bench.status(desired, is_final, LONGEST)? {
+            let left = self.bench.pair.keeper.listed_runs().len();
+            self.figures.built(&octets, left);
+            let due = self.now + self.weather.road_back();
+            let due = self.frames.back().map_or(due, |&last| due.max(last));
+            self.frames.push_back(due);
+        }
+        if self.bench.pair.tally().built.is_multiple_of(SHOW) {
+            self.bench.show()?;
+        }
+        self.last_status = self.now;
+        self.arrivals = 0;
+        Ok(())
+    }
+
+    fn deliver_due(&mut self) -> Result<(), Trouble> {
+        while self.frames.front().is_some_and(|&due| due <= self.now) {
+            self.frames.pop_front();
+            self.bench.deliver()?;
+        }
+        Ok(())
+    }
+
+    fn take_some(&mut self, most: u32) -> Result<(), Trouble> {
+        for _ in 0..most {
+            if self.bench.take()?.is_err() {
+                break;
+            }
+        }
+        Ok(())
+    }
+
+    /// Sending is over: what is under way arrives, and the bearer is closed.
+    fn wind_up(&mut self) -> Result<(), Trouble> {
+        self.now += 10_000;
+        self.arrive_due()?;
+        let _ = self.bench.expire()?;
+        while let Some(Reverse((_, packet))) = self.handset.pop() {
+            let _ = self.bench.confirm(packet)?;
+        }
+        self.status(false)?;
+        self.status(false)?;
+        self.status(true)?;
+        self.now = self.frames.back().map_or(self.now, |&last| last);
+        self.deliver_due()?;
+        self.bench.show()?;
+        self.take_some(u32::MAX)?;
+        self.bench.show()
+    }
+}
+
+fn pop_due(queue: &mut Queue, now: u64) -> Option<usize> {
+    let Reverse((due, packet)) = *queue.peek()?;
+    if due > now {
+        return None;
+    }
+    queue.pop();
+    Some(packet)
+}

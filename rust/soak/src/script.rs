@@ -1,0 +1,205 @@
+//! Writing scripts for `replay`. A script follows its own calls on the
+//! library's ends, so that its writer can aim: at base, at a store that is
+//! nearly full, at the number half a circle away.
+
+use crate::frames;
+use crate::rng::Rng;
+use std::collections::VecDeque;
+use std::io::Write;
+use x2u::frame::LONGEST;
+use x2u::{Bearer, Keeper, Ledger};
+
+/// Both ends as they stand after the calls written so far.
+pub struct Ends {
+    /// The circles.
+    pub bearer: Bearer,
+    /// The secondary.
+    pub keeper: Keeper,
+    /// The master.
+    pub ledger: Ledger,
+    /// Sent packets that have not arrived: number and PDCP number.
+    pub under_way: VecDeque<(u32, u32)>,
+    /// Frames that were built and have not been delivered.
+    pub frames: VecDeque<Vec<u8>>,
+}
+
+/// A script being written.
+pub struct Script {
+    /// Its text so far.
+    pub text: Vec<u8>,
+    /// Where its lines end in the text.
+    pub ends_of_lines: Vec<usize>,
+    /// Where its choices come from.
+    pub rng: Rng,
+    /// The bearer opened last.
+    pub ends: Ends,
+}
+
+impl Script {
+    /// A script that begins by opening a bearer, mostly near both rollovers.
+    #[must_use]
+    pub fn new(rng: Rng) -> Self {
+        let mut rng = rng;
+        let bits = rng.pick(&[12, 15, 18]);
+        Self::with_bits(rng, bits)
+    }
+
+    /// The same with PDCP numbers of that length.
+    #[must_use]
+    pub fn with_bits(rng: Rng, bits: u32) -> Self {
+        let mut rng = rng;
+        let (first, first_pdcp) = near_rollover(&mut rng, bits);
+        let mut script = Self {
+            text: Vec::new(),
+            ends_of_lines: Vec::new(),
+            rng,
+            ends: opened(bits, first, first_pdcp),
+        };
+        script.line(b"open", &[bits, first, first_pdcp]);
+        script
+    }
+
+    /// How many lines it has.
+    #[must_use]
+    pub fn len(&self) -> usize {
+        self.ends_of_lines.len()
+    }
+
+    /// Whether it has no lines.
+    #[must_use]
+    pub fn is_empty(&self) -> bool {
+        self.ends_of_lines.is_empty()
+    }
+
+    /// Writes a line as it stands.
+    pub fn raw(&mut self, line: &[u8]) {
+        self.text.extend_from_slice(line);
+        self.text.push(b'\n');
+        self.ends_of_lines.push(self.text.len());
+    }
+
+    fn line(&mut self, word: &[u8], numbers: &[u32]) {
+        let mut line = word.to_vec();
+        for number in numbers {
+            let width = if self.rng.once_in(200) { 10 } else { 0 };
+            write!(line, "\t{number:0width$}").expect("memory takes all");
+        }
+        self.raw(&line);
+    }
+
+    /// An open that is refused, or opens nothing new.
+    pub fn bad_open(&mut self) {
+        let rng = &mut self.rng;
+        let numbers = match rng.within(0..3) {
+            0 => [rng.within(0..32), rng.word(), rng.word()],
+            1 => [12, rng.within(65_536..70_000), 0],
+            _ => [15, 0, rng.within(32_768..40_000)],
+        };
+        if Bearer::judged(numbers[0], numbers[1], numbers[2]).is_err() {
+            self.line(b"open", &numbers);
+        }
+    }
+
+    /// An arrival.
+    pub fn arrive(&mut self, number: u32, pdcp: u32) {
+        let _ = self.ends.keeper.arrive(number, pdcp);
+        self.line(b"arrive", &[number, pdcp]);
+    }
+
+    /// An arrival `ahead` of base, with any PDCP number.
+    pub fn arrive_ahead(&mut self, ahead: u32) {
+        let circle = self.ends.bearer.numbers();
+        let number = circle.step(self.ends.keeper.base(), ahead);
+        let pdcp = self.rng.word() % self.ends.bearer.pdcp.size();
+        self.arrive(number, pdcp);
+    }
+
+    /// An expiry.
+    pub fn expire(&mut self) {
+        let _ = self.ends.keeper.expire();
+        self.line(b"expire", &[]);
+    }
+
+    /// A confirm.
+    pub fn confirm(&mut self, number: u32) {
+        let _ = self.ends.keeper.confirm(number);
+        self.line(b"confirm", &[number]);
+    }
+
+    /// A status in a buffer of `room`. The frame, if there is one, is under way.
+    pub fn status(&mut self, is_final: bool, room: usize) {
+        let (desired, minimum) = (self.rng.word(), self.rng.word());
+        let mut buffer = [0; LONGEST];
+        let lent = &mut buffer[..room.min(LONGEST)];
+        let built = self.ends.keeper.status(desired, minimum, is_final, lent);
+        if let Ok(length) = built {
+            self.ends.frames.push_back(buffer[..length].to_vec());
+        }
+        self.line(
+            b"status",
+            &[desired, minimum, u32::from(is_final), room as u32],
+        );
+    }
+
+    /// A send. The packet, if it goes out, is under way.
+    pub fn send(&mut self, pdcp: u32) {
+        if let Ok(number) = self.ends.ledger.send(pdcp) {
+            self.ends.under_way.push_back((number, pdcp));
+        }
+        self.line(b"send", &[pdcp]);
+    }
+
+    /// The send that is next in order, after `skip` PDCP numbers left out.
+    pub fn send_next(&mut self, skip: u32) {
+        let pdcp = self.ends.bearer.pdcp;
+        self.send(pdcp.step(self.ends.ledger.last_sent(), 1 + skip));
+    }
+
+    /// A frame reaches the master.
+    pub fn accept(&mut self, octets: &[u8]) {
+        let _ = self.ends.ledger.accept(octets);
+        let mut line = b"accept\t".to_vec();
+        frames::spell(&mut self.rng, octets, &mut line);
+        self.raw(&line);
+    }
+
+    /// The oldest frame under way reaches the master.
+    pub fn deliver(&mut self) {
+        if let Some(frame) = self.ends.frames.pop_front() {
+            self.accept(&frame);
+        }
+    }
+
+    /// A take.
+    pub fn take(&mut self) {
+        let _ = self.ends.ledger.take();
+        self.line(b"take", &[]);
+    }
+
+    /// Shows both ends.
+    pub fn show(&mut self) {
+        self.line(b"keeper", &[]);
+        self.line(b"ledger", &[]);
+    }
+}
+
+fn near_rollover(rng: &mut Rng, bits: u32) -> (u32, u32) {
+    let open = Bearer::judged(bits, 0, 0).expect("the length is one of three");
+    let mut before = |size: u32| match rng.within(0..6) {
+        0 => rng.word() % size,
+        1 => 0,
+        _ => size - 1 - rng.within(0..700),
+    };
+    (before(open.numbers().size()), before(open.pdcp.size()))
+}
+
+fn opened(bits: u32, first: u32, first_pdcp: u32) -> Ends {
+    let fits = "the numbers are on their circles";
+    Ends {
+        bearer: Bearer::judged(bits, first, first_pdcp).expect(fits),
+        keeper: Keeper::open(bits, first, first_pdcp).expect(fits),
+        ledger: Ledger::open(bits, first, first_pdcp).expect(fits),
+        under_way: VecDeque::new(),
+        frames: VecDeque::new(),
+    }
+}

@@ -1,0 +1,52 @@
+//! What the scripts and frames for comparing programs reach.
+
+use programs::lister;
+use programs::replay::Replay;
+use soak::compare::{Frames, Scripts, Source};
+use soak::table::Table;
+use std::io;
+use x2u::Refusal;
+
+/// Answers at least `least` lines of a source and counts the answers.
+fn counted(
+    source: &mut impl Source,
+    least: usize,
+    mut answer: impl FnMut(&[u8], &mut Vec<u8>) -> io::Result<()>,
+) -> Table {
+    let mut table = Table::default();
+    let mut done = 0;
+    let mut out = Vec::new();
+    while done < least {
+        let chunk = source.chunk();
+        for line in &chunk.lines {
+            out.clear();
+            answer(line, &mut out).unwrap();
+            table.count(source.word(line), out.strip_suffix(b"\n").unwrap());
+        }
+        done += chunk.lines.len();
+    }
+    table
+}
+
+#[test]
+fn scripts_meet_every_refusal_often() {
+    let mut replay = Replay::default();
+    let table = counted(&mut Scripts::new(7), 500_000, |line, out| {
+        replay.answer(Some(line), out)
+    });
+    for refusal in Refusal::ALL {
+        let times = table.times(refusal);
+        assert!(times >= 40, "{refusal:?} was given {times} times");
+    }
+}
+
+#[test]
+fn frames_meet_every_refusal_often() {
+    let table = counted(&mut Frames::new(7), 100_000, |line, out| {
+        lister::answer(Some(line), out)
+    });
+    for refusal in &Refusal::ALL[..6] {
+        let times = table.times(*refusal);
+        assert!(times >= 300, "{refusal:?} was given {times} times");
+    }
+}

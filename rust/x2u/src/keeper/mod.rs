@@ -1,0 +1,172 @@
+//! The secondary: it takes packets in, declares the missing ones lost and
+//! reports losses and deliveries to the master.
+//!
+//! Losses are kept as runs and never walked number by number, so an arrival
+//! that jumps over millions of numbers costs what a jump over 300 costs.
+
+mod intake;
+mod runs;
+
+use crate::Answer;
+use crate::bearer::Bearer;
+use crate::frame::{self, MOST_RANGES, Range, Report};
+use crate::refusal::{Refusal, refuse_if};
+pub use intake::{MOST_RECORDS, Record};
+pub use runs::MOST_RUNS;
+
+use intake::Intake;
+use runs::Runs;
+
+/// An open number this far below an arrival is lost.
+pub const WINDOW: u32 = 256;
+
+/// The secondary's end of a bearer.
+#[derive(Clone, Debug)]
+pub struct Keeper {
+    bearer: Bearer,
+    reported: u32,
+    closed: bool,
+    intake: Intake,
+    runs: Runs,
+}
+
+impl Keeper {
+    /// Opens an end for PDCP numbers of `pdcp_bits`, from its first numbers on.
+    pub fn open(pdcp_bits: u32, first: u32, first_pdcp: u32) -> Answer<Self> {
+        let bearer = Bearer::judged(pdcp_bits, first, first_pdcp)?;
+        let circle = bearer.numbers();
+        Ok(Self {
+            bearer,
+            reported: bearer.pdcp.before(first_pdcp),
+            closed: false,
+            intake: Intake::from(first, circle),
+            runs: Runs::none(circle),
+        })
+    }
+
+    /// A packet came in. Answers how many numbers became lost by it.
+    pub fn arrive(&mut self, number: u32, pdcp: u32) -> Answer<u32> {
+        refuse_if(self.closed, Refusal::Closed)?;
+        self.bearer.judge(number, pdcp)?;
+        let half = self.bearer.numbers().half();
+        let ahead = self.intake.ahead(number);
+        refuse_if(ahead >= half, Refusal::Late)?;
+        let place = self.intake.place_for(ahead).ok_or(Refusal::Repeated)?;
+        refuse_if(self.floor_to_base() + ahead >= half, Refusal::Span)?;
+        let cut = (ahead + 1).saturating_sub(WINDOW);
+        self.judge_loss(cut)?;
+        refuse_if(self.intake.is_full(), Refusal::RecordsFull)?;
+
+        self.intake.insert(place, number, pdcp);
+        Ok(self.lose(cut))
+    }
+
+    /// Gives up every open number below the highest accepted. Answers how many
+    /// became lost.
+    pub fn expire(&mut self) -> Answer<u32> {
+        refuse_if(self.closed, Refusal::Closed)?;
+        let cut = self.intake.newest_ahead().ok_or(Refusal::NothingOpen)?;
+        self.judge_loss(cut)?;
+        Ok(self.lose(cut))
+    }
+
+    /// The packet of that number was delivered to the handset.
+    pub fn confirm(&mut self, number: u32) -> Answer<()> {
+        refuse_if(self.closed, Refusal::Closed)?;
+        let held = self.bearer.numbers().holds(number);
+        refuse_if(!held, Refusal::NumberTooLarge)?;
+        refuse_if(!self.intake.confirm(number), Refusal::NotConfirmable)
+    }
+
+    /// Writes the next status to the front of `buffer` and answers its length.
+    /// What it reports is let go.
+    pub fn status(
+        &mut self,
+        desired: u32,
+        minimum: u32,
+        is_final: bool,
+        buffer: &mut [u8],
+    ) -> Answer<usize> {
+        refuse_if(self.closed, Refusal::Closed)?;
+        let (carried, left_out) = self.runs.first(MOST_RANGES);
+        refuse_if(is_final && left_out.is_some(), Refusal::FinalTooEarly)?;
+        let released = self.intake.releasable(left_out);
+        let highest = self.intake.last_pdcp_of(released).unwrap_or(self.reported);
+        let report = Report {
+            highest,
+            desired,
+            minimum,
+            is_final,
+        };
+        let length = frame::write_status(self.bearer.form, &report, carried, buffer)?;
+
+        let carried = carried.len();
+        self.runs.drop_first(carried);
+        self.intake.release(released);
+        self.reported = highest;
+        self.closed = is_final;
+        Ok(length)
+    }
+
+    /// The lowest open number.
+    #[must_use]
+    pub const fn base(&self) -> u32 {
+        self.intake.base()
+    }
+
+    /// The highest PDCP number that the last status reported.
+    #[must_use]
+    pub const fn reported_highest(&self) -> u32 {
+        self.reported
+    }
+
+    /// Whether a final status was built.
+    #[must_use]
+    pub const fn is_closed(&self) -> bool {
+        self.closed
+    }
+
+    /// The runs of lost, unreported numbers, in sending order.
+    #[must_use]
+    pub fn listed_runs(&self) -> &[Range] {
+        self.runs.list()
+    }
+
+    /// The records, in sending order.
+    pub fn records(&self) -> impl Iterator<Item = &Record> {
+        self.intake.records()
+    }
+
+    /// How many records are held.
+    #[must_use]
+    pub const fn record_count(&self) -> usize {
+        self.intake.record_count()
+    }
+
+    /// Steps from the earliest number still held forward to base.
+    fn floor_to_base(&self) -> u32 {
+        let first_run = self.runs.list().first();
+        let first_lost = first_run.map_or(0, |run| self.intake.behind(run.start));
+        first_lost.max(self.intake.oldest_behind())
+    }
+
+    /// Refuses a loss of all open numbers below `cut` that the list can't take.
+    fn judge_loss(&self, cut: u32) -> Answer<()> {
+        let fits = cut == 0 || self.runs.can_take(self.intake.gaps(cut));
+        refuse_if(!fits, Refusal::RunsFull)
+    }
+
+    /// Declares lost every open number less than `cut` ahead of base, which the
+    /// list was seen to take, and moves base up. Answers how many were lost.
+    fn lose(&mut self, cut: u32) -> u32 {
+        let mut lost = 0;
+        // Most arrivals lose nothing.
+        if cut > 0 {
+            let gaps = self.intake.gaps(cut);
+            lost = gaps.map(|gap| self.runs.add(gap)).sum();
+            self.intake.pass(cut);
+        }
+        self.intake.settle();
+        lost
+    }
+}

@@ -1,0 +1,216 @@
+//! The ledger's refusals and corners, one by one.
+
+mod common;
+
+use common::{report, run, written_data, written_status};
+use x2u::frame::Range;
+use x2u::ledger::{Entry, Fate, Settled};
+use x2u::{Form, Ledger, Refusal};
+
+/// A ledger of L = 12 with packets numbered and counted from 0.
+fn ledger_with(sent: u32) -> Ledger {
+    let mut ledger = Ledger::open(12, 0, 0).unwrap();
+    for pdcp in 0..sent {
+        assert_eq!(ledger.send(pdcp), Ok(pdcp));
+    }
+    ledger
+}
+
+fn status(highest: u32, ranges: &[Range]) -> Vec<u8> {
+    written_status(Form::Short, &report(highest, 1, 2, false), ranges)
+}
+
+fn settled(freed: u32, lost: u32) -> Result<Settled, Refusal> {
+    Ok(Settled {
+        freed,
+        lost,
+        is_final: false,
+    })
+}
+
+fn refused(ledger: &mut Ledger, octets: &[u8], refusal: Refusal) {
+    let before = format!("{ledger:?}");
+    assert_eq!(ledger.accept(octets), Err(refusal));
+    assert_eq!(
+        format!("{ledger:?}"),
+        before,
+        "a refused frame changed the ledger"
+    );
+}
+
+fn numbers(ledger: &Ledger) -> Vec<u32> {
+    ledger.entries().map(|entry| entry.number).collect()
+}
+
+/// A good status with one range, but for the octet at `place`.
+fn damaged(place: usize, octet: u8) -> Vec<u8> {
+    let mut octets = status(4_095, &[run(1, 1)]);
+    octets[place] = octet;
+    octets
+}
+
+#[test]
+fn losses_are_applied_before_freeing() {
+    let mut ledger = ledger_with(6);
+    let frame = status(4, &[run(1, 1), run(3, 3)]);
+    assert_eq!(ledger.accept(&frame), settled(3, 2));
+    assert_eq!(numbers(&ledger), [1, 3, 5]);
+    assert_eq!(ledger.highest(), 4);
+    assert_eq!((ledger.desired(), ledger.minimum()), (1, 2));
+    assert_eq!(ledger.take().map(|entry| entry.number), Ok(1));
+    assert_eq!(ledger.take().map(|entry| entry.number), Ok(3));
+    assert_eq!(ledger.take(), Err(Refusal::NothingToTake));
+}
+
+#[test]
+fn a_repeated_highest_frees_none() {
+    let mut ledger = ledger_with(3);
+    assert_eq!(ledger.accept(&status(4_095, &[])), settled(0, 0));
+    assert_eq!(ledger.accept(&status(1, &[])), settled(2, 0));
+    assert_eq!(ledger.accept(&status(1, &[run(2, 2)])), settled(0, 1));
+}
+
+#[test]
+fn frames_are_refused_in_order() {
+    let mut ledger = ledger_with(4);
+    refused(&mut ledger, &[], Refusal::FrameLength);
+    refused(&mut ledger, &[0xF0; 6], Refusal::ReservedType);
+    refused(&mut ledger, &[0x10; 6], Refusal::FieldsCut);
+    refused(&mut ledger, &damaged(1, 0x80), Refusal::HighestTooLarge);
+    refused(&mut ledger, &damaged(11, 0), Refusal::RangeCount);
+    refused(&mut ledger, &damaged(11, 3), Refusal::ListCut);
+    refused(
+        &mut ledger,
+        &written_data(Form::Short, 0),
+        Refusal::NotOurStatus,
+    );
+    let long = written_status(Form::Long, &report(200_000, 0, 0, false), &[]);
+    refused(&mut ledger, &long, Refusal::NotOurStatus);
+    refused(
+        &mut ledger,
+        &status(4_096, &[run(9, 9)]),
+        Refusal::HighestOutside,
+    );
+    refused(
+        &mut ledger,
+        &status(77, &[run(9, 9)]),
+        Refusal::RangesNotWaiting,
+    );
+    refused(
+        &mut ledger,
+        &status(77, &[run(1, 1)]),
+        Refusal::HighestNotWaiting,
+    );
+}
+
+#[test]
+fn ranges_must_rise_through_waiting_entries() {
+    let mut ledger = ledger_with(6);
+    for ranges in [
+        &[run(2, 1)][..],
+        &[run(1, 2), run(2, 3)],
+        &[run(3, 3), run(1, 1)],
+        &[run(4, 6)],
+        &[run(65_535, 0)],
+        &[run(0, 65_535)],
+    ] {
+        refused(
+            &mut ledger,
+            &status(4_095, ranges),
+            Refusal::RangesNotWaiting,
+        );
+    }
+    let adjacent = status(4_095, &[run(1, 2), run(3, 3)]);
+    assert_eq!(ledger.accept(&adjacent), settled(0, 3));
+    refused(
+        &mut ledger,
+        &status(4_095, &[run(3, 3)]),
+        Refusal::RangesNotWaiting,
+    );
+}
+
+#[test]
+fn highest_must_be_left_waiting() {
+    let mut ledger = ledger_with(4);
+    refused(
+        &mut ledger,
+        &status(2, &[run(1, 2)]),
+        Refusal::HighestNotWaiting,
+    );
+    ledger.accept(&status(4_095, &[run(2, 2)])).unwrap();
+    refused(&mut ledger, &status(2, &[]), Refusal::HighestNotWaiting);
+    assert_eq!(ledger.accept(&status(3, &[])), settled(3, 0));
+    refused(&mut ledger, &status(1, &[]), Refusal::HighestNotWaiting);
+}
+
+#[test]
+fn a_lost_entry_may_share_numbers_with_a_waiting_one() {
+    let mut ledger = ledger_with(1);
+    ledger.accept(&status(4_095, &[run(0, 0)])).unwrap();
+    // Both circles roll over while number 0 stays in the ledger, lost.
+    for sent in 1..=65_536_u32 {
+        ledger.send(sent % 4_096).unwrap();
+        if sent % 500 == 0 {
+            ledger.accept(&status(sent % 4_096, &[])).unwrap();
+        }
+    }
+    let shared: Vec<Entry> = ledger
+        .entries()
+        .filter(|e| e.number == 0)
+        .copied()
+        .collect();
+    assert_eq!(shared.len(), 2);
+    assert_eq!(
+        ledger.accept(&status(65_535 % 4_096, &[run(0, 0)])),
+        settled(35, 1)
+    );
+    let all_lost = ledger.entries().all(|entry| entry.fate == Fate::Lost);
+    assert!(all_lost && ledger.entries().count() == 2);
+}
+
+#[test]
+fn the_ledger_fills_to_512() {
+    let mut ledger = ledger_with(512);
+    assert_eq!(ledger.send(511), Err(Refusal::PdcpOrder));
+    assert_eq!(ledger.send(512), Err(Refusal::LedgerFull));
+    assert_eq!(ledger.send(4_096), Err(Refusal::NumberTooLarge));
+    // Lost entries count too, until they are taken.
+    ledger.accept(&status(4_095, &[run(0, 511)])).unwrap();
+    assert_eq!(ledger.send(512), Err(Refusal::LedgerFull));
+    ledger.take().unwrap();
+    assert_eq!(ledger.send(512), Ok(512));
+}
+
+#[test]
+fn a_closed_ledger_only_gives_out() {
+    let mut ledger = ledger_with(3);
+    let last = written_status(Form::Short, &report(0, 0, 0, true), &[run(2, 2)]);
+    let answer = Settled {
+        freed: 1,
+        lost: 1,
+        is_final: true,
+    };
+    assert_eq!(ledger.accept(&last), Ok(answer));
+    refused(&mut ledger, &[], Refusal::Closed);
+    assert_eq!(ledger.send(u32::MAX), Err(Refusal::Closed));
+    assert_eq!(
+        ledger.take().map(|e| (e.number, e.fate)),
+        Ok((1, Fate::Waiting))
+    );
+    assert_eq!(
+        ledger.take().map(|e| (e.number, e.fate)),
+        Ok((2, Fate::Lost))
+    );
+    assert_eq!(ledger.take(), Err(Refusal::NothingToTake));
+}
+
+#[test]
+fn opening_is_judged() {
+    assert_eq!(Ledger::open(16, 0, 0).unwrap_err(), Refusal::PdcpLength);
+    assert_eq!(
+        Ledger::open(18, 1 << 24, 0).unwrap_err(),
+        Refusal::NumberTooLarge
+    );
+    let ledger = Ledger::open(18, 0, 0).unwrap();
+    assert_eq!((ledger.highest(), ledger.last_sent()), (262_143, 262_143));
+}
