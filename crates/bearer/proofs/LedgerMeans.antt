@@ -2,25 +2,26 @@
 -- (specs/LedgerMeaning.antt): each accepted call keeps a sound ledger (Master.antt), and a sound ledger means that.
 -- Assumes nothing.
 use mathlib.Core.Path.{_≡_, refl, sym, _∙_, ap, subst}
-use mathlib.Core.Bool.{Bool, true, false}
+use mathlib.Core.Bool.{Bool, true, false, not}
 use mathlib.Core.List.{List, [], _∷_, _++_, map}
-use mathlib.Core.Logic.{⊎-elim}
+use mathlib.Core.Logic.{_⊎_, inl, inr, ⊎-elim}
 use Prim.Native.Nat.{ℕ, suc, _+_, _-_, _/_, _≤_, _<_}
 use native.Mathlib.Omega.{arith}
 use native.Mathlib.Nat.{mod-lt}
 use borrow.Author.Tests.{ltb-true}
-use lib.Dec.{ltb}
+use lib.Dec.{leb, ltb}
 use lib.ListN.{length, take, drop, length-append, take-append-drop}
 use Rattle.circle.specs.Circle.{forward}
-use Rattle.layout.specs.Basics.{if_then_else_, _and_, done}
-use Rattle.bearer.specs.Bearer.{isLength, numbers, pdcps}
-use Rattle.bearer.specs.Ledger.{waiting, Entry, Ledger, Accepted, Taken, waits, openLedger, send, sentState, markLost, freed, accept, takeFrom, takeOldest, takeAt}
+use Rattle.layout.specs.Basics.{if_then_else_, _and_, _or_, done, refused}
+use Rattle.bearer.specs.Bearer.{isLength, numbers, pdcps, mostEntries}
+use Rattle.bearer.specs.Ledger.{waiting, Entry, Ledger, Accepted, Taken, waits, openLedger, inOrder, send, sentState, markLost, freed, accept, takeFrom, takeOldest, takeAt}
 use Rattle.bearer.specs.Demand3.{packets, Rising, In, isDone}
 use Rattle.bearer.specs.Meaning.{Each}
-use Rattle.bearer.specs.LedgerMeaning.{LedgerReached, opened, sending, accepting, taking, waitingIn, lostIn, pastHighest, StatusMeans, LedgersMean, StatusesMean}
-use Rattle.bearer.proofs.Lists.{contrary, and-true}
+use Rattle.bearer.specs.LedgerMeaning.{LedgerReached, opened, sending, accepting, taking, waitingIn, lostIn, pastHighest, StatusMeans, TakenFrom, this-one, passes-over, LedgersMean, SendsMean, TakesMean, StatusesMean}
+use Rattle.bearer.proofs.Lists.{tested, contrary, and-true}
 use Rattle.bearer.proofs.Members.{passed, done-one}
 use Rattle.bearer.proofs.ImageLists.{each-so}
+use Rattle.bearer.proofs.GivenUp.{not-refused}
 use Rattle.bearer.proofs.ImageLaws.{positive, same-packet}
 use Rattle.bearer.proofs.Pdcps.{pdcpOf, faster, few}
 use Rattle.bearer.proofs.Lengths.{roomy}
@@ -61,6 +62,10 @@ module _ (L first : ℕ) (l : Ledger ℕ) (sent : List ℕ) (freed₀ taken : �
           lost-count = p .lost-is ∙ t .count-is;
           are-freed = rw left (f .freed-by);
           freed-count = count;
+          highest-is = ap (λ (x : Ledger ℕ). x .highest) (p .state-is);
+          desired-is = ap (λ (x : Ledger ℕ). x .desired) (p .state-is);
+          minimum-is = ap (λ (x : Ledger ℕ). x .minimum) (p .state-is);
+          final-closes = ap (λ (x : Ledger ℕ). x .closed) (p .state-is);
         },
         record {
           ok = x .ok;
@@ -204,3 +209,52 @@ ledgers-mean L first f l sent freed taken x =
           same-packet (numbers L) first (positive L) i j (omega (arith, q, r .halves, r .more-pdcps)) (omega (arith, p, r .halves, r .more-pdcps)) e;
       most = m .most;
     }
+
+-- ---- what sends and takes answer
+
+-- a number given out is the ledger's next, which is the next packet's
+given-out : (l : Ledger ℕ) (p a n : ℕ) → send l p a .answer ≡ done n → n ≡ l .next
+given-out l p a n e =
+    let shut = not-refused (l .closed) 9 l _ n e in
+    let bad = not-refused (not (ltb p (pdcps (l .bits)))) 10 l _ n (shut .1) in
+    let late = not-refused (not (inOrder l p)) 35 l _ n (bad .1) in
+    let full = not-refused (leb mostEntries (length (l .entries))) 36 l _ n (late .1) in
+    sym (done-one (l .next) n (full .1))
+
+pub sends-mean : SendsMean
+sends-mean L first f l sent freed taken x p n e = given-out l p (length sent) n e ∙ sound L first f x .master .next-is
+
+-- the entries from the place of a take on: the first of them goes, and those in front of it are passed over
+taken-from : (c : Bool) (t : Taken) (es : List (Entry ℕ)) (e : Entry ℕ) (b : List (Entry ℕ)) → drop (takeAt c es) es ≡ e ∷ b → t ≡ record { number = e .number; pdcp = e .pdcp }
+    → TakenFrom c t es (take (takeAt c es) es ++ b)
+taken-from c t [] e b q h = absurd (let z : _≡_ {A = ℕ} 0 1 = cc in omega arith)
+taken-from c t (x ∷ es) e b q h = go (tested (c or not (waits x))) (taken-from c t es e b)
+  where
+    go : (c or not (waits x) ≡ true) ⊎ (c or not (waits x) ≡ false) → (drop (takeAt c es) es ≡ e ∷ b → t ≡ record { number = e .number; pdcp = e .pdcp } → TakenFrom c t es (take (takeAt c es) es ++ b))
+        → TakenFrom c t (x ∷ es) (take (takeAt c (x ∷ es)) (x ∷ es) ++ b)
+    go (inl y) rest =
+        let same : x ∷ es ≡ e ∷ b = rw y at q in
+        let here : x ≡ e = cc in
+        let tail : es ≡ b = cc in
+        rw y (rw (← tail) (this-one x es y (h ∙ ap (λ (d : Entry ℕ). record { number = d .number; pdcp = d .pdcp }) (sym here))))
+    go (inr y) rest = rw y (passes-over x (open-end c y) (still c (waits x) y) (rest (rw y at q) h))
+      where
+        open-end : (c : Bool) → c or not (waits x) ≡ false → c ≡ false
+        open-end true z = z
+        open-end false z = refl
+        still : (c w : Bool) → c or not w ≡ false → w ≡ true
+        still true w z = absurd (contrary refl z)
+        still false true z = refl
+        still false false z = absurd (contrary refl z)
+
+pub takes-mean : TakesMean
+takes-mean l t e = go (drop (takeAt (l .closed) (l .entries)) (l .entries)) refl
+  where
+    go : (rest : List (Entry ℕ)) → drop (takeAt (l .closed) (l .entries)) (l .entries) ≡ rest → TakenFrom (l .closed) t (l .entries) (takeOldest l .state .entries)
+    go [] q =
+        let none : takeOldest l .answer ≡ refused 38 = ap (λ (r : List (Entry ℕ)). takeFrom l (take (takeAt (l .closed) (l .entries)) (l .entries)) r .answer) q in
+        absurd (let z : _≡_ {A = ℕ} 0 1 = cc in omega arith)
+    go (x ∷ b) q =
+        let says : takeOldest l .answer ≡ done (record { number = x .number; pdcp = x .pdcp }) = ap (λ (r : List (Entry ℕ)). takeFrom l (take (takeAt (l .closed) (l .entries)) (l .entries)) r .answer) q in
+        let state : takeOldest l .state .entries ≡ take (takeAt (l .closed) (l .entries)) (l .entries) ++ b = ap (λ (r : List (Entry ℕ)). takeFrom l (take (takeAt (l .closed) (l .entries)) (l .entries)) r .state .entries) q in
+        rw state (taken-from (l .closed) t (l .entries) x b q (done-one t (record { number = x .number; pdcp = x .pdcp }) (sym e ∙ says)))

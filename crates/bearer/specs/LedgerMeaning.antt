@@ -1,14 +1,14 @@
 -- What the master's machine means: every ledger that calls reach from open is as document 01 says, on packet indexes that never
--- roll over, whatever frames were accepted on the way. Packet i is the i-th accepted send. The statements are `LedgersMean` and
+-- roll over, whatever frames were accepted on the way. Packet i is the i-th accepted send. The statements are `LedgersMean`, `SendsMean`, `TakesMean` and
 -- `StatusesMean`, at the end; they are proved in proofs/LedgerMeans.antt.
 -- Assumes nothing.
 use mathlib.Core.Path.{_≡_}
-use mathlib.Core.Bool.{true, false}
+use mathlib.Core.Bool.{true, false, not, Bool}
 use mathlib.Core.List.{List, [], _∷_, _++_, map}
 use Prim.Native.Nat.{ℕ, suc, _+_, _/_, _≤_, _<_}
 use lib.ListN.{length, getD}
 use Rattle.circle.specs.Circle.{forward}
-use Rattle.layout.specs.Basics.{if_then_else_, done}
+use Rattle.layout.specs.Basics.{if_then_else_, done, _or_}
 use Rattle.layout.specs.Frames.{Status, status-of, readFrame}
 use Rattle.bearer.specs.Bearer.{pdcps, mostEntries}
 use Rattle.bearer.specs.Ledger.{Entry, Ledger, Accepted, Taken, waits, asLost, openLedger, send, accept, takeOldest}
@@ -94,6 +94,18 @@ pub record StatusMeans (L : ℕ) (sent : List ℕ) (l : Ledger ℕ) (octets : Li
   -- "then every waiting entry from the oldest through the one whose PDCP number is the frame's highest is freed and leaves": so many
   pub are-freed : FreedBy sent (l .highest) (frame .highest) applied (accept l octets .state .entries)
   pub freed-count : a .freed + length (accept l octets .state .entries) ≡ length (l .entries)
+  -- H is the frame's highest from then on; "Both sizes replace the former ones. Final closes this end."
+  pub highest-is : accept l octets .state .highest ≡ frame .highest
+  pub desired-is : accept l octets .state .desired ≡ frame .desired
+  pub minimum-is : accept l octets .state .minimum ≡ frame .minimum
+  pub final-closes : accept l octets .state .closed ≡ frame .final
+
+-- ---- what an accepted take means
+
+-- "Take removes the oldest lost entry and answers its two numbers. Once closed it takes the oldest entry, lost or waiting."
+pub data TakenFrom (closed : Bool) (t : Taken) : List (Entry ℕ) → List (Entry ℕ) → Type 0 where
+  this-one : (e : Entry ℕ) (es : List (Entry ℕ)) → closed or not (waits e) ≡ true → t ≡ record { number = e .number; pdcp = e .pdcp } → TakenFrom closed t (e ∷ es) es
+  passes-over : {es ds : List (Entry ℕ)} (e : Entry ℕ) → closed ≡ false → waits e ≡ true → TakenFrom closed t es ds → TakenFrom closed t (e ∷ es) (e ∷ ds)
 
 -- ---- the statements
 
@@ -102,6 +114,16 @@ abbrev pub LedgersMean : Type 0
 LedgersMean =
     (L first f : ℕ) (l : Ledger ℕ) (sent : List ℕ) (freed taken : ℕ) → LedgerReached L first f l sent freed taken
     → LedgerMeans L first l sent freed taken
+
+-- every number that such a ledger gives out is the next packet's
+abbrev pub SendsMean : Type 0
+SendsMean =
+    (L first f : ℕ) (l : Ledger ℕ) (sent : List ℕ) (freed taken : ℕ) → LedgerReached L first f l sent freed taken
+    → (p n : ℕ) → send l p (length sent) .answer ≡ done n → n ≡ numberOf L first (length sent)
+
+-- every take, whatever the ledger
+abbrev pub TakesMean : Type 0
+TakesMean = (l : Ledger ℕ) (t : Taken) → takeOldest l .answer ≡ done t → TakenFrom (l .closed) t (l .entries) (takeOldest l .state .entries)
 
 -- every status that such a ledger accepts
 abbrev pub StatusesMean : Type 0
