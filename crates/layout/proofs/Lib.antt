@@ -1,4 +1,3 @@
-pub mod Bench
 pub mod Basics
 pub mod Forms
 pub mod Octets
