@@ -121,6 +121,6 @@ module _ (l : Ledger Unit) (i : ℕ) (e : i ≡ takeAt (l .closed) (l .entries))
   pub take-none : length (l .entries) ≤ i → takeOldest l ≡ beside (refused 38) l
   take-none all = rw (← e, drop-of-length-le (l .entries) all)
 
-  pub take-one : (x : Entry Unit) → Stands (l .entries) i x
-      → takeOldest l ≡ beside (done (record { number = x .number; pdcp = x .pdcp })) (holding l (take i (l .entries) ++ drop (suc i) (l .entries)))
-  take-one x at = rw (← e, at .rest)
+  pub take-one : (x : Entry Unit) → Stands (l .entries) i x → (es : List (Entry Unit)) → es ≡ take i (l .entries) ++ drop (suc i) (l .entries)
+      → beside (done (record { number = x .number; pdcp = x .pdcp })) (holding l es) ≡ takeOldest l
+  take-one x at es left = rw (← e, at .rest, left)

@@ -3,13 +3,12 @@ use mathlib.Core.Path.{_≡_, sym, _∙_, ap}
 use Prim.Native.Nat.{ℕ, suc, _<_, min}
 use native.Mathlib.Numerals.{add-one}
 use native.Mathlib.Omega.{arith}
-use mathlib.Core.List.{List, _++_}
+use mathlib.Core.List.{_++_}
 use lib.ListN.{length, getD, take, drop, length-map}
-use Rattle.layout.specs.Basics.{done}
-use Rattle.bearer.specs.Ledger.{Entry, takeAt}
-use Rattle.ledger.specs.View.{entryIn, entriesIn, ledgerIn, beside}
+use Rattle.bearer.specs.Ledger.{takeAt}
+use Rattle.ledger.specs.View.{entryIn, entriesIn, ledgerIn}
 use Rattle.ledger.proofs.Entries.{entries-length, blank, slot}
-use Rattle.ledger.proofs.Calls.{holding, take-none, take-one}
+use Rattle.ledger.proofs.Calls.{take-none, take-one}
 use borrow.Author.Needs.{needs}
 use Rattle.ledger.proofs.take.Statement.{statement}
 use Rattle.ledger.proofs.take.Tie as tie
@@ -59,8 +58,7 @@ returns-2 c =
     let e = entryIn (getD (l .entries) i blank) in
     let left : entriesIn (w .result .entries) (min (w .result .count) 512) ≡ take i (ledgerIn l .entries) ++ drop (suc i) (ledgerIn l .entries) =
     rw least (rw (h .held .ensures, add-one i) at (w .ensures .0)) in
-    ap (λ (es : List (Entry Unit)). beside (done (record { number = e .number; pdcp = e .pdcp })) (holding (ledgerIn l) es)) left
-    ∙ sym (take-one (ledgerIn l) i (place k) e at)
+    take-one (ledgerIn l) i (place k) e at (entriesIn (w .result .entries) (min (w .result .count) 512)) left
 
 pub take-spec : {M : Type 1} → statement M
 take-spec =
