@@ -239,7 +239,7 @@ fn mark(es: [Entry; MOST_ENTRIES], n: usize, bits: u32, frame: &[u8], first: Cur
     let mut at = first;
     let mut i: usize = 0;
     'ranges: loop {
-        let Step::Range { start, end, rest } = reader::next_range(frame, at) else {
+        let Step::Range { start, end, rest } = view::next_range(frame, at) else {
             m.found = true;
             return m;
         };
