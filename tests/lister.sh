@@ -1,6 +1,7 @@
 #!/usr/bin/env bash
 # The lister on document 01's sample and the frames of its bench sheet, and on input that it must survive.
 set -u
+shopt -s lastpipe # so that a pipe's last command counts in this shell
 cd "$(dirname "$0")/.."
 passed=0
 failed=0
@@ -39,7 +40,7 @@ printf '0%.0s' $(seq 2036) | lister | is '2,036 digits' '0\t0\n'
 printf '0%.0s' $(seq 2038) | lister | is '2,038 digits' 'unreadable\n'
 { head -c 3000000 /dev/zero | tr '\0' 'a'; printf '\n001234000000\n'; head -c 2000000 /dev/zero; } | lister | is 'lines of megabytes' 'unreadable\n0\t4660\nunreadable\n'
 
-# 100,000 lines over many blocks
+# 2,000 lines over several blocks
 want=$(for _ in $(seq 1000); do printf '0\\t4660\\n1\\t120\\t65536\\t4096\\t0\\t7-9\\n'; done)
 for _ in $(seq 1000); do printf '001234000000\n110078000100000000100001000700090000\n'; done | lister | is 'many blocks' "$want"
 

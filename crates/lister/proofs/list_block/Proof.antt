@@ -1,0 +1,104 @@
+-- `list_block`: each turn has room, so that it takes something of the block. Assumes nothing.
+use Prim.Native.Nat.{ℕ, _+_, _-_, _≤_, _<_}
+use native.Mathlib.Omega.{arith}
+use mathlib.Core.List.{List}
+use mathlib.Core.Path.{_≡_, refl, _∙_}
+use lib.ListN.{length, take, drop, length-drop}
+use lib.Seq.{take-all}
+use borrow.Author.Needs.{needs}
+use Rattle.listing.proofs.Feeds.{Goes, goes}
+use Rattle.lister.proofs.list_block.Statement.{statement}
+use Rattle.lister.proofs.list_block.Tie as tie
+
+abbrev Inv-loop : tie.InvT-loop
+Inv-loop block line₀ out₀ held₀ at₀ from₀ line out held at from = (from ≤ length block) × (at ≤ length out) × (length out ≡ length out₀) × (4096 ≤ length out)
+
+abbrev μ-loop : tie.MeasureT-loop
+μ-loop block line₀ out₀ held₀ at₀ from₀ line out held at from = length block - from
+
+loop-holds : tie.Need-loop-holds Inv-loop μ-loop
+loop-holds c = (omega arith, c .before .before .pre .1, refl, c .before .before .pre .0)
+
+next-place-requires : tie.Need-next-place-requires Inv-loop μ-loop
+next-place-requires c κs = search needs
+
+same-length : tie.Need-same-length Inv-loop μ-loop
+same-length c = c .before .before .before .before .before .loop .inv .2
+
+returns : tie.Need-returns Inv-loop μ-loop
+returns c = search needs
+
+sub-feed : tie.Need-sub-feed Inv-loop μ-loop
+sub-feed c = search needs
+
+part-feed-start : tie.Need-part-feed-start Inv-loop μ-loop
+part-feed-start c = search needs
+
+part-feed-end : tie.Need-part-feed-end Inv-loop μ-loop
+part-feed-end c = search needs
+
+feed-requires : tie.Need-feed-requires Inv-loop μ-loop
+feed-requires c κs = search needs
+
+-- what the call took, of what was left of the block
+took : (c : tie.After-feed Inv-loop μ-loop)
+    → let l = c .before .before .before .before .before .before .before .before .before .loop in
+    let block = c .before .before .before .before .before .before .before .before .before .before .before .before .args .block .now in
+    Goes (drop (l .from) block) (l .out) (c .feed .result)
+took c =
+    let l = c .before .before .before .before .before .before .before .before .before .loop in
+    let block = c .before .before .before .before .before .before .before .before .before .before .before .before .args .block .now in
+    let next = c .before .before .before .before .before .before .next-place in
+    let part : take (length block - l .from) (drop (l .from) block) ≡ drop (l .from) block
+    = take-all (length block - l .from) (drop (l .from) block) (omega (arith, length-drop (l .from) block)) in
+    goes (drop (l .from) block) (l .line) (l .out) (c .feed .last .1 .0) (c .feed .last .1 .1 .1 .0) (l .held) (next .result .at) (c .feed .result)
+    (rw part at (c .feed .ensures)) (next .ensures) (omega (arith, length-drop (l .from) block))
+
+-- is within it
+within : (c : tie.After-feed Inv-loop μ-loop)
+    → let l = c .before .before .before .before .before .before .before .before .before .loop in
+    let block = c .before .before .before .before .before .before .before .before .before .before .before .before .args .block .now in
+    l .from + c .feed .result .taken ≤ length block
+within c =
+    let l = c .before .before .before .before .before .before .before .before .before .loop in
+    let block = c .before .before .before .before .before .before .before .before .before .before .before .before .args .block .now in
+    omega (arith, took c .most, length-drop (l .from) block)
+
+add-from : tie.Need-add-from Inv-loop μ-loop
+add-from c = omega (arith, within (c .before .before .before))
+
+loop-less : tie.Need-loop-less Inv-loop μ-loop
+loop-less c = omega (arith, within (c .before .before .before), took (c .before .before .before) .some)
+
+loop-again : tie.Need-loop-again Inv-loop μ-loop
+loop-again c =
+    let d = c .before .before .before in
+    let l = d .before .before .before .before .before .before .before .before .before .loop in
+    let size = d .feed .kept .1 .1 .1 .0 in
+    (within d, omega (arith, took d .within, size), size ∙ l .inv .2, omega (arith, size, l .inv .3))
+
+same-length-2 : tie.Need-same-length-2 Inv-loop μ-loop
+same-length-2 c = c .before .loop .inv .2
+
+returns-2 : tie.Need-returns-2 Inv-loop μ-loop
+returns-2 c = search needs
+
+pub list-block-spec : {M : Type 1} → statement M
+list-block-spec =
+    tie.close
+    (tie.spec
+    Inv-loop
+    μ-loop
+    loop-holds
+    next-place-requires
+    same-length
+    returns
+    sub-feed
+    part-feed-start
+    part-feed-end
+    feed-requires
+    add-from
+    loop-less
+    loop-again
+    same-length-2
+    returns-2)

@@ -1,0 +1,40 @@
+-- What is kept of a line answers for the whole of it.
+-- Assumes nothing.
+use mathlib.Core.Path.{_≡_, refl, sym, _∙_, ap}
+use mathlib.Core.Bool.{true}
+use mathlib.Core.List.{List, [], _∷_, _++_}
+use Prim.Native.Nat.{ℕ, zero, suc, _≤_, _<_, min}
+use native.Mathlib.Omega.{arith}
+use borrow.Author.Tests.{lt-ltb}
+use lib.ListN.{length, take, length-take}
+use lib.Seq.{take-all}
+use Rattle.listing.specs.Listing.{mostDigits, unreadable, unreadableText, lineOf}
+use Rattle.listing.specs.Feeding.{kept}
+use Rattle.listing.proofs.Cases.{below-or}
+
+-- too long a line can't be read
+too-long : (l : List ℕ) → 2036 < length l → lineOf l ≡ unreadableText
+unfolding lineOf
+too-long l h = rw (lt-ltb 2036 (length l) h)
+
+pub line-kept : (l : List ℕ) → lineOf (kept l) ≡ lineOf l
+line-kept l =
+    below-or 2037 (length l)
+    (λ h. too-long (kept l) (omega (arith, length-take 2037 l)) ∙ sym (too-long l (omega arith)))
+    (λ h. ap lineOf (take-all 2037 l h))
+
+-- what is kept of it and more is what is kept of both
+pub take-more : (m : ℕ) (a b : List ℕ) → take m (take m a ++ b) ≡ take m (a ++ b)
+take-more zero a b = refl
+take-more (suc m) [] b = refl
+take-more (suc m) (x ∷ a) b = ap (λ (t : List ℕ). x ∷ t) (take-more m a b)
+
+pub length-kept : (l : List ℕ) → length (kept l) ≤ 2037
+length-kept l = omega (arith, length-take 2037 l)
+
+-- a count past a list's end takes the whole of it
+pub take-held : (n : ℕ) (l : List ℕ) → take (min n (length l)) l ≡ take n l
+take-held n l =
+    below-or n (length l)
+    (λ h. ap (λ (k : ℕ). take k l) (let e : min n (length l) ≡ n = omega arith in e))
+    (λ h. take-all (min n (length l)) l (omega arith) ∙ sym (take-all n l h))

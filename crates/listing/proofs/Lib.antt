@@ -1,0 +1,10 @@
+pub mod Cases
+pub mod Laying
+pub mod Decimal
+pub mod Hex
+pub mod Texts
+pub mod Bound
+pub mod Decoding
+pub mod Kept
+pub mod Blocks
+pub mod Feeds

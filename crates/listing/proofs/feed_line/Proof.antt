@@ -1,0 +1,153 @@
+-- `feed_line`: a line feed ends the unfinished line and what stands before it, which are answered; a block without one is held.
+-- Assumes nothing.
+use Prim.Native.Nat.{ℕ, suc, _+_, _-_, _≤_, _<_}
+use native.Mathlib.Numerals.{add-one}
+use native.Mathlib.Omega.{arith}
+use mathlib.Core.Bool.{true}
+use mathlib.Core.List.{List, [], _∷_, _++_, append-nil}
+use mathlib.Core.Path.{_≡_, refl, sym, _∙_, ap, ap₂}
+use lib.ListN.{length, getD, take, drop, length-take, drop-of-length-le}
+use lib.Seq.{sets, length-sets, length-take-le, take-all, split-at}
+use borrow.Author.Needs.{needs}
+use borrow.Author.Tests.{le-leb}
+use Rattle.listing.specs.Listing.{lineOf}
+use Rattle.listing.specs.Laid.{Room, Laid}
+use Rattle.listing.specs.Feeding.{roomy, answerIn, kept, feeding, leaving, unended, LineEnd, Onward}
+use Rattle.listing.proofs.Feeds.{fed-plain, fed-line, leaving-saying}
+use Rattle.listing.proofs.Kept.{line-kept}
+use Rattle.listing.proofs.Laying.{laid-length}
+use Rattle.listing.proofs.feed_line.Statement.{statement}
+use Rattle.listing.proofs.feed_line.Tie as tie
+
+module _ (block line out : List ℕ) (held at end : ℕ) (ends : LineEnd block end) (few : held ≤ 2037) (room : Room out at 4096) where
+  has-room : roomy (length out - at) ≡ true
+  has-room = le-leb 4096 (length out - at) (omega arith)
+
+  few-held : length (take held line) ≤ 2037
+  few-held = omega (arith, length-take held line)
+
+  -- no line feed: the block is held
+  held-block : (h : ℕ) (line′ : List ℕ) → end ≡ length block → 0 < length block → take h line′ ≡ kept (take held line ++ block) → h ≤ 2037 → length line′ ≡ length line
+      → Onward block line out held at (record { taken = end; held = h; at = at }) line′ out
+  held-block h line′ whole some is small size =
+      let plain : unended block ≡ true = ap unended (sym (take-all end block (omega arith))) ∙ ends .before in
+      let fed = fed-plain (length out - at) (take held line) block [] has-room few-held plain in
+      let none : drop end block ≡ [] = drop-of-length-le block {i = end} (omega arith) in
+      record {
+        same = λ n. rw (none, is) (ap (λ (b : List ℕ). leaving n out at (feeding (length out - at) (take held line) b)) (sym (append-nil block)) ∙ ap (leaving n out at) fed);
+        some = omega arith;
+        taken = omega arith;
+        few = small;
+        size = size;
+      }
+
+  -- a line feed: the answer to the line that it ends is laid
+  answered : (x line′ out′ : List ℕ) (at′ : ℕ) → end < length block → length line′ ≡ length line → lineOf x ≡ lineOf (take held line ++ take end block)
+      → Laid out at (answerIn (length out - at) x) at′ out′ → Onward block line out held at (record { taken = end + 1; held = 0; at = at′ }) line′ out′
+  answered x line′ out′ at′ inside size is laid =
+      let t = lineOf (take held line ++ take end block) in
+      let rest = drop (end + 1) block in
+      let cut : block ≡ take end block ++ (10 ∷ rest)
+      = split-at block end 0 inside ∙ ap₂ (λ (c k : ℕ). take end block ++ (c ∷ drop k block)) (ends .there inside) (sym (add-one end)) in
+      let said : Laid out at t at′ out′ = rw (has-room, is) at laid in
+      let left : length out′ - at′ ≡ length out - at - length t = omega (arith, laid-length said, said .behind) in
+      let fed = fed-line (length out - at) (take held line) (take end block) rest has-room few-held (ends .before) in
+      record {
+        same = λ n.
+            ap (λ (b : List ℕ). leaving n out at (feeding (length out - at) (take held line) b)) cut
+            ∙ ap (leaving n out at) fed
+            ∙ leaving-saying n out at t (feeding (length out - at - length t) [] rest)
+            ∙ sym (ap (λ (k : ℕ). leaving n out′ at′ (feeding k [] rest)) left ∙ ap₂ (λ (o : List ℕ) (a : ℕ). leaving n o a (feeding (length out - at - length t) [] rest)) (said .buffer) (said .behind));
+        some = omega arith;
+        taken = omega arith;
+        few = omega arith;
+        size = size;
+      }
+
+line-end-requires : tie.Need-line-end-requires
+line-end-requires c κs = search needs
+
+hold-requires : tie.Need-hold-requires
+hold-requires c κs = search needs
+
+returns : tie.Need-returns
+returns c =
+    let s = c .before .before .before .before .before .before in
+    let a = s .args in
+    let e = c .before .before .before .line-end in
+    held-block (a .block .now) (a .line .now) (a .out .now) (a .held) (a .at) (e .result) (e .ensures) (s .pre .1) (s .pre .2)
+    (c .hold .result) (c .hold .last .1 .0) (c .before .before .if1 .taken) (s .pre .0) (c .hold .ensures .0) (omega (arith, c .hold .ensures .1 .0)) (c .hold .ensures .1 .1)
+
+add-t13 : tie.Need-add-t13
+add-t13 c = search needs
+
+slice-aggregate-answer : tie.Need-slice-aggregate-answer
+slice-aggregate-answer c =
+    let d = c .before .before .before in
+    sym (length-take-le (d .line-end .result) (d .before .before .before .args .block .now) (d .line-end .ensures .within))
+
+answer-requires : tie.Need-answer-requires
+answer-requires c κs = search needs
+
+same-length : tie.Need-same-length
+same-length c = search needs
+
+returns-2 : tie.Need-returns-2
+returns-2 c =
+    let d = c .before .before .before .before .before .before in
+    let s = d .before .before .before .before .before in
+    let a = s .args in
+    let e = d .before .before .line-end in
+    let empty : a .held ≡ 0 = d .if2 .taken in
+    let whole : lineOf (take (e .result) (a .block .now)) ≡ lineOf (take (a .held) (a .line .now) ++ take (e .result) (a .block .now)) = rw empty in
+    answered (a .block .now) (a .line .now) (a .out .now) (a .held) (a .at) (e .result) (e .ensures) (s .pre .1) (s .pre .2)
+    (take (e .result) (a .block .now)) (a .line .now) (c .before .before .answer .last .1 .1 .0) (c .before .before .answer .result)
+    (omega (arith, e .ensures .within, d .before .if1 .left)) refl whole (c .before .before .answer .ensures .0)
+
+slice-aggregate-hold : tie.Need-slice-aggregate-hold
+slice-aggregate-hold c =
+    let d = c .before .before .before in
+    sym (length-take-le (d .line-end .result) (d .before .before .before .args .block .now) (d .line-end .ensures .within))
+
+hold-requires-2 : tie.Need-hold-requires-2
+hold-requires-2 c κs = search needs
+
+add-t9 : tie.Need-add-t9
+add-t9 c = search needs
+
+answer-held-requires : tie.Need-answer-held-requires
+answer-held-requires c κs = search needs
+
+same-length-2 : tie.Need-same-length-2
+same-length-2 c = search needs
+
+returns-3 : tie.Need-returns-3
+returns-3 c =
+    let h = c .before .before .before .before .before .before .before in
+    let d = h .before .before .before in
+    let s = d .before .before .before .before .before in
+    let a = s .args in
+    let e = d .before .before .line-end in
+    answered (a .block .now) (a .line .now) (a .out .now) (a .held) (a .at) (e .result) (e .ensures) (s .pre .1) (s .pre .2)
+    (take (h .hold2 .result) (h .hold2 .last .1 .0)) (h .hold2 .last .1 .0) (c .before .before .answer-held .last .1 .1 .1 .0) (c .before .before .answer-held .result)
+    (omega (arith, e .ensures .within, d .before .if1 .left)) (h .hold2 .ensures .1 .1) (ap lineOf (h .hold2 .ensures .0) ∙ line-kept (take (a .held) (a .line .now) ++ take (e .result) (a .block .now)))
+    (c .before .before .answer-held .ensures)
+
+pub feed-line-spec : {M : Type 1} → statement M
+feed-line-spec =
+    tie.close
+    (tie.spec
+    line-end-requires
+    hold-requires
+    returns
+    add-t13
+    slice-aggregate-answer
+    answer-requires
+    same-length
+    returns-2
+    slice-aggregate-hold
+    hold-requires-2
+    add-t9
+    answer-held-requires
+    same-length-2
+    returns-3)

@@ -1,0 +1,4 @@
+pub mod Listing
+pub mod Feeding
+pub mod Laid
+pub mod Texts

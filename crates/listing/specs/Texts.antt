@@ -1,0 +1,20 @@
+-- Parts of the lister's texts, as they are laid one after another.
+-- Assumes nothing.
+use mathlib.Core.List.{List, [], _∷_, _++_}
+use Prim.Native.Nat.{ℕ}
+use Rattle.layout.specs.Frames.{Range}
+use Rattle.listing.specs.Listing.{decimal, rangeText}
+
+-- a number with a mark behind it
+abbrev pub marked : ℕ → ℕ → List ℕ
+marked n mark = decimal n ++ (mark ∷ [])
+
+-- numbers, each with a tab behind it
+abbrev pub tabbed : List ℕ → List ℕ
+tabbed [] = []
+tabbed (n ∷ ns) = marked n 9 ++ tabbed ns
+
+-- ranges, each with a comma before it
+abbrev pub moreText : List Range → List ℕ
+moreText [] = []
+moreText (r ∷ rs) = 44 ∷ (rangeText r ++ moreText rs)
