@@ -1,0 +1,58 @@
+use native.Mathlib.Numerals.{add-one}
+use borrow.Author.Tests.{eq-eqb, ne-eqb}
+use Rattle.layout.specs.Frames.{modulus}
+use Rattle.bearer.specs.Losses.{offsets, lowest}
+use Rattle.loss.proofs.Gaps.{lowest-snoc}
+use Prim.Native.Nat.{ℕ, zero, suc, _+_, _-_, _*_, _/_, _%_, _^_, _≤_, _<_, min, max}
+use native.Mathlib.Omega.{arith}
+use mathlib.Core.Path.{_≡_, refl, sym, _∙_, ap}
+use lib.ListN.{length, getD, set, take, drop}
+use mathlib.Core.List.{List, [], _∷_, _++_, map}
+use borrow.Author.Needs.{needs}
+use Rattle.keeper.proofs.base_after.Statement.{statement}
+use Rattle.keeper.proofs.base_after.Tie as tie
+use Rattle.keeper.proofs.base_after.Reads as reads
+use Rattle.keeper.proofs.base_after.Lts as lts
+use Rattle.loss.proofs.lowest.Reads as lowest-reads
+use Rattle.loss.proofs.onward.Reads as onward-reads
+
+-- src/lib.rt:517:9
+lowest-requires : tie.Need-lowest-requires
+lowest-requires c κs = search needs
+
+-- src/lib.rt:519:35
+add-onward : tie.Need-add-onward
+add-onward c = search needs
+
+-- src/lib.rt:519:9
+onward-requires : tie.Need-onward-requires
+onward-requires c κs = search needs
+
+-- src/lib.rt:519:9
+returns : tie.Need-returns
+returns c =
+    let a = c .before .before .before .before .args in
+    let os = offsets (modulus (a .long)) (a .base) (a .above .now) in
+    let low = lowest (a .limit) os in
+    let is : c .before .before .lowest .result ≡ low = c .before .before .lowest .ensures in
+    let same : a .top ≡ low = sym (c .before .if1 .taken) ∙ is in
+    rw (lowest-snoc (a .limit) os (a .top), eq-eqb (a .top) low same, ← add-one low, ← is) (c .onward .ensures)
+
+-- src/lib.rt:521:5
+onward-requires-2 : tie.Need-onward-requires-2
+onward-requires-2 c κs = search needs
+
+-- src/lib.rt:513:1
+returns-2 : tie.Need-returns-2
+returns-2 c =
+    let a = c .before .before .before .before .args in
+    let os = offsets (modulus (a .long)) (a .base) (a .above .now) in
+    let low = lowest (a .limit) os in
+    let is : c .before .before .lowest .result ≡ low = c .before .before .lowest .ensures in
+    let other : a .top ≡ low → ⊥ = λ (e : a .top ≡ low). c .before .if1 .left (is ∙ sym e) in
+    rw (lowest-snoc (a .limit) os (a .top), ne-eqb (a .top) low other, ← is) (c .onward2 .ensures)
+
+pub base-after-spec : {M : Type 1} → statement M
+base-after-spec =
+    tie.close
+    (tie.spec lowest-requires add-onward onward-requires returns onward-requires-2 returns-2)

@@ -1,0 +1,185 @@
+use Rattle.keeper.proofs.Unique.{lost-not}
+use Rattle.bearer.specs.Keeper.{expire}
+use lib.ListN.{length}
+use Rattle.bearer.specs.Losses.{withRuns}
+use Rattle.bearer.specs.Keeper.{Keeper, circle, held}
+use Rattle.keeper.specs.View.{isSet, lengthIn, recordsOf, keeperIn}
+use Rattle.keeper.specs.Plans.{JudgesExpiry, AcceptsExpiry, movedTo, runsWith}
+use Rattle.keeper.proofs.Arrays.{HeldSizes, ListedSizes, held-count, listed-count, numbers-held, ends-listed, stored-state}
+use Rattle.keeper.proofs.Given.{lists-of, runs-of}
+use Rattle.keeper.specs.declared.Words.{Words}
+use mathlib.Core.Bool.{true, false}
+use Rattle.layout.specs.Frames.{Range, rangesOf, modulus}
+use Rattle.bearer.specs.Bearer.{mostRuns, mostRecords}
+use Rattle.bearer.specs.Keeper.{Keeper, circle}
+use Rattle.keeper.specs.View.{recordsOf, keeperIn}
+use Rattle.keeper.specs.Plans.{circleOf, wordsIn, JudgesExpiry, AcceptsExpiry, Lists}
+use Rattle.keeper.proofs.Arrays.{HeldSizes, ListedSizes, held-count, listed-count, numbers-held, ends-listed, stored-state}
+use Prim.Native.Nat.{ℕ, zero, suc, _+_, _-_, _*_, _/_, _%_, _^_, _≤_, _<_, min, max}
+use native.Mathlib.Omega.{arith}
+use mathlib.Core.Path.{_≡_, refl, sym, _∙_, ap}
+use lib.ListN.{length, getD, set, take, drop}
+use mathlib.Core.List.{List, [], _∷_, _++_, map}
+use borrow.Author.Needs.{needs}
+use Rattle.keeper.proofs.expire.Statement.{statement}
+use Rattle.keeper.proofs.expire.Tie as tie
+use Rattle.keeper.proofs.expire.Reads as reads
+use Rattle.keeper.proofs.expire.Lts as lts
+use Rattle.keeper.proofs.first.Reads as first-reads
+use Rattle.keeper.proofs.held_in.Reads as held-in-reads
+use Rattle.keeper.proofs.is_long.Reads as is-long-reads
+use Rattle.keeper.proofs.judge_expiry.Reads as judge-expiry-reads
+use Rattle.keeper.proofs.list_runs.Reads as list-runs-reads
+use Rattle.keeper.proofs.listed_in.Reads as listed-in-reads
+use Rattle.keeper.proofs.read.Reads as read-reads
+use Rattle.keeper.proofs.store.Reads as store-reads
+
+-- {h
+-- the state before
+abbrev state : (c : tie.Start) → Keeper
+state c = let a = c .args in keeperIn (a .numbers .now) (a .pdcps .now) (a .marks .now) (a .starts .now) (a .ends .now) (a .words .now)
+
+held-sizes : (c : tie.After-held-in) → let a = c .before .before .before .before .before .before .before .before .before .args in HeldSizes (a .numbers .now) (a .pdcps .now) (a .marks .now)
+held-sizes c = record { numbers = c .before .before .before .before .before .held-in-arg2 .given .0; pdcps = c .before .before .before .held-in-arg4 .given .0; marks = c .before .held-in-arg6 .given .0 }
+
+run-sizes : (c : tie.After-listed-in) → ListedSizes (c .before .before .before .before .before .before .before .before .before .before .before .before .before .before .args .starts .now) (c .before .before .before .before .before .before .before .before .before .before .before .before .before .before .args .ends .now)
+run-sizes c = record { starts = c .before .before .before .listed-in-arg2 .given .0; ends = c .before .listed-in-arg4 .given .0 }
+
+held-is : (c : tie.After-listed-in) → c .before .before .before .before .before .held-in .result ≡ min (getD (c .before .before .before .before .before .before .before .before .before .before .before .before .before .before .args .words .now) 5 0) mostRecords
+held-is c = held-count (held-sizes (c .before .before .before .before .before)) (c .before .before .before .before .before .before .before .before .before .before .before .before .before .before .args .words .now) (c .before .before .before .before .before .before .before .before .before .before .before .before .read .result) (c .before .before .before .before .before .held-in .result) (c .before .before .before .before .before .before .before .before .before .before .before .before .read .ensures) (c .before .before .before .before .before .held-in .ensures)
+
+listed-is : (c : tie.After-listed-in) → c .listed-in .result ≡ min (getD (c .before .before .before .before .before .before .before .before .before .before .before .before .before .before .args .words .now) 4 0) mostRuns
+listed-is c = listed-count (run-sizes c) (c .before .before .before .before .before .before .before .before .before .before .before .before .before .before .args .words .now) (c .before .before .before .before .before .before .before .before .before .before .before .before .read .result) (c .listed-in .result) (c .before .before .before .before .before .before .before .before .before .before .before .before .read .ensures) (c .listed-in .ensures)
+
+-- the numbers with records, as they are passed
+seen : (c : tie.After-listed-in) → take (c .before .before .before .before .before .held-in .result) (c .before .before .before .before .before .before .before .before .before .before .before .before .before .before .args .numbers .now) ≡ held (state (c .before .before .before .before .before .before .before .before .before .before .before .before .before .before))
+seen c =
+    rw (held-is c) (sym (numbers-held (held-sizes (c .before .before .before .before .before)) (min (getD (c .before .before .before .before .before .before .before .before .before .before .before .before .before .before .args .words .now) 5 0) mostRecords) (omega arith)))
+
+judged : (c : tie.After-judge-expiry) → JudgesExpiry (c .judge-expiry .result) (state (c .before .before .before .before .before .before .before .before .before .before .before .before .before .before .before .before .before .before .before .before .before))
+judged c =
+    let k = state (c .before .before .before .before .before .before .before .before .before .before .before .before .before .before .before .before .before .before .before .before .before) in
+    let n : ℕ = min (getD (c .before .before .before .before .before .before .before .before .before .before .before .before .before .before .before .before .before .before .before .before .before .args .words .now) 4 0) mostRuns in
+    rw (c .before .before .before .before .before .before .before .before .before .before .before .before .before .before .before .before .before .before .before .read .ensures) at
+    (c .judge-expiry .ensures (k .runs) (k .records)
+    (sym (c .before .before .before .before .first .ensures ∙ seen (c .before .before .before .before .before .before .before)))
+    (ends-listed (run-sizes (c .before .before .before .before .before .before .before)) n (omega arith) ∙ sym (c .before .first2 .ensures ∙ rw (listed-is (c .before .before .before .before .before .before .before)))))
+
+accepts : (c : tie.After-plan) → AcceptsExpiry (c .plan .given .0 .0) (state (c .before .before .before .before .before .before .before .before .before .before .before .before .before .before .before .before .before .before .before .before .before .before .before))
+accepts c = rw (c .plan .given .1) at (judged (c .before .before))
+
+-- what is passed to list the runs
+circle-is : (c : tie.After-is-long) → modulus (c .is-long .result) ≡ circle (state (c .before .before .before .before .before .before .before .before .before .before .before .before .before .before .before .before .before .before .before .before .before .before .before .before .before .before .before .before .before))
+circle-is c = rw (c .is-long .ensures, c .before .before .before .before .before .before .before .before .before .before .before .before .before .before .before .before .before .before .before .before .before .before .before .before .before .before .before .read .ensures)
+
+base-is : (c : tie.After-is-long) → c .before .before .before .before .before .before .before .before .before .before .before .before .before .before .before .before .before .before .before .before .before .before .before .before .before .before .before .read .result .base ≡ state (c .before .before .before .before .before .before .before .before .before .before .before .before .before .before .before .before .before .before .before .before .before .before .before .before .before .before .before .before .before) .base
+base-is c = ap (λ (w : Words). w .base) (c .before .before .before .before .before .before .before .before .before .before .before .before .before .before .before .before .before .before .before .before .before .before .before .before .before .before .before .read .ensures)
+
+numbers-are : (c : tie.After-first3) → c .first3 .result .now ≡ held (state (c .before .before .before .before .before .before .before .before .before .before .before .before .before .before .before .before .before .before .before .before .before .before .before .before .before .before .before .before))
+numbers-are c = c .first3 .ensures ∙ seen (c .before .before .before .before .before .before .before .before .before .before .before .before .before .before)
+
+-- the runs listed then
+runs-are : (c : tie.After-list-runs)
+    → take (min (c .before .before .before .before .before .before .before .before .before .plan .given .0 .0 .lost .runs) mostRuns) (rangesOf (c .list-runs .last .1 .1 .1 .1 .0) (c .list-runs .last .1 .1 .1 .1 .1 .0)) ≡ runsWith (c .before .before .before .before .before .before .before .before .before .plan .given .0 .0 .lost) (state (c .before .before .before .before .before .before .before .before .before .before .before .before .before .before .before .before .before .before .before .before .before .before .before .before .before .before .before .before .before .before .before .before))
+runs-are c =
+    let lost = c .before .before .before .before .before .before .before .before .before .plan .given .0 .0 .lost in
+    let few : min (lost .runs) mostRuns ≡ lost .runs = omega (arith, accepts (c .before .before .before .before .before .before .before .before .before) .loses .few) in
+    rw few (c .list-runs .ensures
+    ∙ runs-of (circle-is (c .before .before .before)) (base-is (c .before .before .before)) (numbers-are (c .before .before .before .before)) (listed-is (c .before .before .before .before .before .before .before .before .before .before .before .before .before .before .before .before .before .before)) (rangesOf (c .before .before .before .before .before .before .before .before .before .before .before .before .before .before .before .before .before .before .before .before .before .before .before .before .before .before .before .before .before .before .before .before .args .starts .now) (c .before .before .before .before .before .before .before .before .before .before .before .before .before .before .before .before .before .before .before .before .before .before .before .before .before .before .before .before .before .before .before .before .args .ends .now)) (lost .limit))
+-- h}
+
+-- src/lib.rt:147:9
+read-requires : tie.Need-read-requires
+read-requires c κs = search needs
+
+-- src/lib.rt:148:9
+held-in-requires : tie.Need-held-in-requires
+held-in-requires c κs = search needs
+
+-- src/lib.rt:149:9
+listed-in-requires : tie.Need-listed-in-requires
+listed-in-requires c κs = search needs
+
+-- src/lib.rt:150:27
+first-requires : tie.Need-first-requires
+first-requires c κs = search needs
+
+-- src/lib.rt:150:49
+first-requires-2 : tie.Need-first-requires-2
+first-requires-2 c κs = search needs
+
+-- src/lib.rt:150:11
+judge-expiry-requires : tie.Need-judge-expiry-requires
+judge-expiry-requires c κs = search needs
+
+-- src/lib.rt:151:25
+enum-known-n : tie.Need-enum-known-n
+enum-known-n c = search needs
+
+-- src/lib.rt:152:26
+enum-known-plan : tie.Need-enum-known-plan
+enum-known-plan c = search needs
+
+-- src/lib.rt:154:23
+first-requires-3 : tie.Need-first-requires-3
+first-requires-3 c κs = search needs
+
+-- src/lib.rt:154:53
+is-long-requires : tie.Need-is-long-requires
+is-long-requires c κs = search needs
+
+-- src/lib.rt:154:13
+list-runs-requires : tie.Need-list-runs-requires
+list-runs-requires c κs =
+    let a = c .before .before .before .before .before .before .before .before .before .before .before .before .before .before .before .before .before .before .before .before .before .before .before .before .before .before .before .before .before .before .before .args in
+    let z = run-sizes (c .before .before .before .before .before .before .before .before .before .before .before .before .before .before .before .before .before) in
+    let l = accepts (c .before .before .before .before .before .before .before .before) .loses in
+    lists-of (circle-is (c .before .before)) (base-is (c .before .before)) (numbers-are (c .before .before .before)) (listed-is (c .before .before .before .before .before .before .before .before .before .before .before .before .before .before .before .before .before)) (a .starts .now) (a .ends .now) (l .losing) (omega (arith, z)) (z .starts ∙ sym (z .ends)) (omega (arith, z .starts, l .few))
+
+-- src/lib.rt:162:27
+cast-t43 : tie.Need-cast-t43
+cast-t43 c = omega (arith, accepts (c .before .before .before .before .before .before .before .before .before .before .before) .loses .few)
+
+-- src/lib.rt:155:13
+store-requires : tie.Need-store-requires
+store-requires c κs = search needs
+
+-- src/lib.rt:134:1
+returns : tie.Need-returns
+returns c = (sym (rw (c .before .n .given .1) at (judged (c .before .before .before))), λ n e. refl)
+
+-- src/lib.rt:134:1
+returns-2 : tie.Need-returns-2
+returns-2 c =
+    let a = c .before .before .before .before .before .before .before .before .before .before .before .before .before .before .before .before .before .before .before .before .before .before .before .before .before .before .before .before .before .before .before .before .before .before .before .args in
+    let k = state (c .before .before .before .before .before .before .before .before .before .before .before .before .before .before .before .before .before .before .before .before .before .before .before .before .before .before .before .before .before .before .before .before .before .before .before) in
+    let w = c .before .before .before .before .before .before .before .before .before .before .before .before .before .before .before .before .before .before .before .before .before .before .before .before .before .before .before .before .before .before .before .before .before .read .result in
+    let is = c .before .before .before .before .before .before .before .before .before .before .before .before .before .before .before .before .before .before .before .before .before .before .before .before .before .before .before .before .before .before .before .before .before .read .ensures in
+    let plan = c .before .before .before .before .before .before .before .before .before .before .before .before .plan .given .0 .0 in
+    let ss = c .before .before .before .list-runs .last .1 .1 .1 .1 .0 in
+    let es = c .before .before .before .list-runs .last .1 .1 .1 .1 .1 .0 in
+    let new : Words = record { length = w .length; base = plan .base; reported = w .reported; closed = w .closed; runs = plan .lost .runs; records = w .records } in
+    let after = stored-state (movedTo k (plan .base) (runsWith (plan .lost) k) (k .records)) new (a .numbers .now) (a .pdcps .now) (a .marks .now) ss es (rw is) refl (rw is) (rw is) (runs-are (c .before .before .before)) (rw is) in (
+      rw (c .store .ensures, accepts (c .before .before .before .before .before .before .before .before .before .before .before .before) .outcome, after),
+      λ n e. absurd (lost-not _ n e),
+    )
+
+pub expire-spec : {M : Type 1} → statement M
+expire-spec =
+    tie.close
+    (tie.spec
+    read-requires
+    held-in-requires
+    listed-in-requires
+    first-requires
+    first-requires-2
+    judge-expiry-requires
+    enum-known-n
+    enum-known-plan
+    first-requires-3
+    is-long-requires
+    list-runs-requires
+    cast-t43
+    store-requires
+    returns
+    returns-2)

@@ -1,0 +1,45 @@
+use lib.Seq.{length-take-le}
+use Rattle.keeper.proofs.Parts.{taken-off}
+use Prim.Native.Nat.{ℕ, zero, suc, _+_, _-_, _*_, _/_, _%_, _^_, _≤_, _<_, min, max}
+use native.Mathlib.Omega.{arith}
+use mathlib.Core.Path.{_≡_, refl, sym, _∙_, ap}
+use lib.ListN.{length, getD, set, take, drop}
+use mathlib.Core.List.{List, [], _∷_, _++_, map}
+use borrow.Author.Needs.{needs}
+use Rattle.keeper.proofs.take_off.Statement.{statement}
+use Rattle.keeper.proofs.take_off.Tie as tie
+use Rattle.keeper.proofs.take_off.Reads as reads
+use Rattle.keeper.proofs.take_off.Lts as lts
+use Rattle.shelf.proofs.drop_front.Reads as drop-front-reads
+
+-- src/lib.rt:644:23
+slice-relend-prefix-drop-front : tie.Need-slice-relend-prefix-drop-front
+slice-relend-prefix-drop-front c = search needs
+
+-- src/lib.rt:644:23
+slice-aggregate-drop-front : tie.Need-slice-aggregate-drop-front
+slice-aggregate-drop-front c = sym (length-take-le (c .before .before .args .held) (c .before .before .args .a .now) (omega arith))
+
+-- src/lib.rt:644:5
+drop-front-requires : tie.Need-drop-front-requires
+drop-front-requires c κs = search needs
+
+-- src/lib.rt:640:1
+same-length : tie.Need-same-length
+same-length c = search needs
+
+-- src/lib.rt:640:1
+returns : tie.Need-returns
+returns c =
+    let a = c .before .before .before .before .before .args in
+    taken-off (a .a .now) (c .before .before .drop-front .last .0) (a .held) (a .k) (c .before .before .before .before .before .pre .0) (c .before .before .before .before .before .pre .1) (c .before .before .drop-front .ensures)
+
+pub take-off-spec : {M : Type 1} → statement M
+take-off-spec =
+    tie.close
+    (tie.spec
+    slice-relend-prefix-drop-front
+    slice-aggregate-drop-front
+    drop-front-requires
+    same-length
+    returns)

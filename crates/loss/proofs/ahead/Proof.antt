@@ -1,0 +1,18 @@
+use borrow.Author.Needs.{needs}
+use Rattle.loss.proofs.ahead.Statement.{statement}
+use Rattle.loss.proofs.ahead.Tie as tie
+
+forward-requires : tie.Need-forward-requires
+forward-requires c κs = search needs
+
+returns : tie.Need-returns
+returns c = rw (c .before .if1 .taken) (c .forward .ensures)
+
+forward-requires-2 : tie.Need-forward-requires-2
+forward-requires-2 c κs = search needs
+
+returns-2 : tie.Need-returns-2
+returns-2 c = rw (c .before .if1 .left) (c .forward2 .ensures)
+
+pub ahead-spec : {M : Type 1} → statement M
+ahead-spec = tie.close (tie.spec forward-requires returns forward-requires-2 returns-2)

@@ -1,0 +1,18 @@
+use borrow.Author.Needs.{needs}
+use Rattle.loss.proofs.behind.Statement.{statement}
+use Rattle.loss.proofs.behind.Tie as tie
+
+is-before-requires : tie.Need-is-before-requires
+is-before-requires c κs = search needs
+
+ahead-requires : tie.Need-ahead-requires
+ahead-requires c κs = search needs
+
+returns : tie.Need-returns
+returns c = rw (← c .before .before .is-before .ensures) (rw (c .before .if1 .taken) (c .ahead .ensures))
+
+returns-2 : tie.Need-returns-2
+returns-2 c = rw (← c .before .is-before .ensures) (rw (c .if1 .left))
+
+pub behind-spec : {M : Type 1} → statement M
+behind-spec = tie.close (tie.spec is-before-requires ahead-requires returns returns-2)
