@@ -1,18 +1,14 @@
 -- An input that is fed in blocks of any sizes, into an output of any room before each call, says its listing.
 -- Assumes nothing.
 use mathlib.Core.Path.{_≡_, refl, sym, _∙_, ap, ap₂}
-use mathlib.Core.Bool.{Bool, true, false, not}
 use mathlib.Core.List.{List, [], _∷_, _++_, append-assoc, append-nil}
-use Prim.Native.Nat.{ℕ, suc, _+_, _-_, _≤_, _<_}
-use native.Mathlib.Omega.{arith}
+use Prim.Native.Nat.{ℕ, _+_, _-_}
 use lib.Dec.{eqb}
-use lib.ListN.{length, take, length-append}
+use lib.ListN.{length}
 use lib.Seq.{append-snoc}
-use borrow.Author.Tests.{leb-true}
 use Rattle.layout.specs.Basics.{if_then_else_}
-use Rattle.listing.specs.Listing.{lineOf, onto, linesOf, answersTo, listing}
-use Rattle.listing.specs.Feeding.{roomy, kept, Feeding, saying, feeding, lastOf}
-use Rattle.listing.proofs.Bound.{line-most}
+use Rattle.listing.specs.Listing.{lineFeed, lineOf, onto, linesOf, answersTo, listing}
+use Rattle.listing.specs.Feeding.{roomy, kept, feeding, lastOf}
 use Rattle.listing.proofs.Cases.{true-or}
 use Rattle.listing.proofs.Kept.{line-kept, take-more}
 
@@ -21,7 +17,7 @@ use Rattle.listing.proofs.Kept.{line-kept, take-more}
 -- all that is said to octets behind an unfinished line, the last line's answer included
 abbrev pub told : List ℕ → List ℕ → List ℕ
 told line [] = lastOf line
-told line (c ∷ cs) = if eqb c 10 then lineOf line ++ told [] cs else told (kept (line ++ (c ∷ []))) cs
+told line (c ∷ cs) = if eqb c lineFeed then lineOf line ++ told [] cs else told (kept (line ++ (c ∷ []))) cs
 
 -- an unfinished line before lines: it goes before the first
 abbrev before : List ℕ → List (List ℕ) → List (List ℕ)
@@ -43,7 +39,7 @@ told-lines : (line input : List ℕ) → told (kept line) input ≡ answersTo (b
 told-lines [] [] = refl
 told-lines (x ∷ l) [] = line-kept (x ∷ l) ∙ sym (append-nil (lineOf (x ∷ l)))
 told-lines line (c ∷ cs) =
-    true-or (eqb c 10)
+    true-or (eqb c lineFeed)
     (λ e. rw e (ap₂ _++_ (line-kept line ∙ ap lineOf (sym (append-nil line))) (told-lines [] cs ∙ ap answersTo (before-none (linesOf cs)))))
     (λ e.
     rw e
@@ -65,7 +61,7 @@ told-fed room line [] later = refl
 told-fed room line (c ∷ cs) later =
     true-or (roomy room)
     (λ r.
-    true-or (eqb c 10)
+    true-or (eqb c lineFeed)
     (λ e.
     rw (r, e)
     (ap (λ (t : List ℕ). lineOf line ++ t) (told-fed (room - length (lineOf line)) [] cs later)

@@ -1,9 +1,9 @@
 -- No answer is longer than 4,096 octets.
 -- Assumes nothing.
-use mathlib.Core.Path.{_≡_, refl, sym, _∙_, ap}
+use mathlib.Core.Path.{_≡_, refl, ap}
 use mathlib.Core.Bool.{Bool, true, false}
 use mathlib.Core.List.{List, [], _∷_, _++_}
-use Prim.Native.Nat.{ℕ, suc, _+_, _*_, _^_, _≤_, _<_}
+use Prim.Native.Nat.{ℕ, _+_, _*_, _^_, _≤_, _<_}
 use native.Mathlib.Omega.{arith}
 use lib.Dec.{ltb, eqb}
 use lib.ListN.{length, length-append}
@@ -15,7 +15,7 @@ use Rattle.layout.proofs.Basics.{and-true}
 use Rattle.layout.proofs.Octets.{AreOctets}
 use Rattle.layout.proofs.Frame.{data-frame, status-frame, WritableStatus}
 use Rattle.layout.proofs.Read.{frame-read, read-is-writable}
-use Rattle.listing.specs.Listing.{decimal, rangeText, rangesText, answerTo, unreadable, octetsIn, unreadableText, lineOf}
+use Rattle.listing.specs.Listing.{ascii, tab, lineFeed, rangeText, rangesText, answerTo, unreadable, octetsIn, lineOf}
 use Rattle.listing.specs.Texts.{marked, tabbed, moreText}
 use Rattle.listing.proofs.Decimal.{decimal-most}
 use Rattle.listing.proofs.Hex.{octets-are}
@@ -101,7 +101,7 @@ bit-small false = omega arith
 bit-small true = omega arith
 
 tabbed-more : (n : ℕ) (ns : List ℕ) → n < 10 ^ 10 → length (tabbed (n ∷ ns)) ≤ 11 + length (tabbed ns)
-tabbed-more n ns h = omega (arith, length-append (marked n 9) (tabbed ns), marked-most n 9 h)
+tabbed-more n ns h = omega (arith, length-append (marked n tab) (tabbed ns), marked-most n tab h)
 
 status-most : (s : Status) → WritableStatus s → length (answerTo (status-of s)) ≤ 4096
 status-most s w =
@@ -112,7 +112,7 @@ status-most s w =
     let f = tabbed-more (bit (s .final)) [] (bit-small (s .final)) in
     let fields = tabbed (statusType (s .long) ∷ s .highest ∷ s .desired ∷ s .minimum ∷ bit (s .final) ∷ []) in
     let texts = rangesText (s .ranges) in
-    omega (arith, ap length (status-text s), length-append fields (texts ++ (10 ∷ [])), length-append texts (10 ∷ []), ranges-most (s .long) (s .ranges) (w .ranges-fit), w .ranges-few)
+    omega (arith, ap length (status-text s), length-append fields (texts ++ (lineFeed ∷ [])), length-append texts (lineFeed ∷ []), ranges-most (s .long) (s .ranges) (w .ranges-fit), w .ranges-few)
 
 -- what octets are read as
 reading-most : (s : List ℕ) → AreOctets s → (r : Reading) → readFrame s ≡ r → Small r → length (answerTo r) ≤ 4096
@@ -129,6 +129,6 @@ pub line-most : (l : List ℕ) → length (lineOf l) ≤ 4096
 unfolding lineOf
 line-most l = by (unreadable l)
   where
-    by : (b : Bool) → length (if b then unreadableText else answerTo (readFrame (octetsIn l))) ≤ 4096
+    by : (b : Bool) → length (if b then ascii "unreadable\n" else answerTo (readFrame (octetsIn l))) ≤ 4096
     by true = omega arith
     by false = frame-most (octetsIn l) (octets-are l)

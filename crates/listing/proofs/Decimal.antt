@@ -1,12 +1,12 @@
 -- A number in decimal, digit by digit, and how many digits it has.
 -- Assumes nothing.
-use mathlib.Core.Path.{_≡_, refl, sym, _∙_, ap}
+use mathlib.Core.Path.{_≡_, _∙_, ap}
 use mathlib.Core.List.{List, [], _∷_, _++_}
 use Prim.Native.Nat.{ℕ, zero, suc, _+_, _*_, _/_, _%_, _^_, _≤_, _<_}
 use native.Mathlib.Omega.{arith}
 use native.Mathlib.Nat.{pow-suc, one-le-pow}
 use borrow.Author.Tests.{lt-ltb, le-ltb}
-use lib.Dec.{ltb}
+use Prim.Native.Char.{code}
 use lib.ListN.{length, length-append}
 use Rattle.listing.specs.Listing.{digitsIn, decimal}
 use Rattle.listing.proofs.Cases.{below-or}
@@ -18,21 +18,21 @@ enough (suc j) zero n h g = absurd (let no : ⊥ = omega arith in no)
 enough (suc j) (suc k) n h g =
     below-or n 10
     (λ b. rw (lt-ltb n 10 b))
-    (λ b. rw (le-ltb n 10 b) (ap (λ (ds : List ℕ). ds ++ ((48 + n % 10) ∷ [])) (enough j k (n / 10) (omega arith) (omega arith))))
+    (λ b. rw (le-ltb n 10 b) (ap (λ (ds : List ℕ). ds ++ ((code "0" + n % 10) ∷ [])) (enough j k (n / 10) (omega arith) (omega arith))))
 
 -- a number below 10 is one digit
-pub decimal-one : (n : ℕ) → n < 10 → decimal n ≡ (48 + n) ∷ []
+pub decimal-one : (n : ℕ) → n < 10 → decimal n ≡ (code "0" + n) ∷ []
 unfolding decimal
 decimal-one n h = rw (lt-ltb n 10 h)
 
 -- any other is the digits of its tenth, and the last
-pub decimal-more : (n : ℕ) → 10 ≤ n → decimal n ≡ decimal (n / 10) ++ ((48 + n % 10) ∷ [])
+pub decimal-more : (n : ℕ) → 10 ≤ n → decimal n ≡ decimal (n / 10) ++ ((code "0" + n % 10) ∷ [])
 unfolding decimal
-decimal-more n h = rw (le-ltb n 10 h) (ap (λ (ds : List ℕ). ds ++ ((48 + n % 10) ∷ [])) (enough n (suc (n / 10)) (n / 10) (omega arith) (omega arith)))
+decimal-more n h = rw (le-ltb n 10 h) (ap (λ (ds : List ℕ). ds ++ ((code "0" + n % 10) ∷ [])) (enough n (suc (n / 10)) (n / 10) (omega arith) (omega arith)))
 
 -- and one digit more than its tenth
 pub length-more : (n : ℕ) → 10 ≤ n → length (decimal n) ≡ length (decimal (n / 10)) + 1
-length-more n h = ap length (decimal-more n h) ∙ length-append (decimal (n / 10)) ((48 + n % 10) ∷ [])
+length-more n h = ap length (decimal-more n h) ∙ length-append (decimal (n / 10)) ((code "0" + n % 10) ∷ [])
 
 -- a number has a digit
 pub decimal-some : (n : ℕ) → 0 < length (decimal n)

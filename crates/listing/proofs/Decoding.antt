@@ -2,9 +2,8 @@
 -- Assumes nothing.
 use mathlib.Core.Path.{_≡_, refl, sym, _∙_, ap}
 use mathlib.Core.Bool.{Bool, true, false, not}
-use mathlib.Core.List.{List, [], _∷_, _++_}
-use Prim.Native.Nat.{ℕ, _+_, _*_, _%_, _≤_}
-use native.Mathlib.Nat.{zero-add}
+use mathlib.Core.List.{List}
+use Prim.Native.Nat.{ℕ, _+_, _%_, _≤_}
 use native.Mathlib.Omega.{arith}
 use borrow.Author.Tests.{ltb-false}
 use lib.Dec.{ltb, eqb}
@@ -13,7 +12,7 @@ use lib.Seq.{sets, sets-eq, length-sets, take-append-seam}
 use Rattle.layout.specs.Basics.{if_then_else_, _or_, all}
 use Rattle.layout.specs.Frames.{readFrame}
 use Rattle.layout.proofs.Basics.{or-false}
-use Rattle.listing.specs.Listing.{isDigit, octetsIn, badCount, mostDigits, unreadable, unreadableText, answerTo, lineOf}
+use Rattle.listing.specs.Listing.{ascii, isDigit, octetsIn, badCount, mostDigits, unreadable, answerTo, lineOf}
 use Rattle.listing.specs.Feeding.{decodedOf, decodedInto}
 use Rattle.listing.specs.declared.Decoded.the-variants.{Octets, Unreadable}
 use Rattle.listing.proofs.Hex.{octets-half}
@@ -55,6 +54,6 @@ module _ (l : List ℕ) where
   line-read e = rw e
 
   -- and to any other `unreadable`
-  pub line-unread : decodedOf l ≡ Unreadable → lineOf l ≡ unreadableText
+  pub line-unread : decodedOf l ≡ Unreadable → lineOf l ≡ ascii "unreadable\n"
   unfolding lineOf
   line-unread e = rw (pick-none (unreadable l) (length (octetsIn l)) e)

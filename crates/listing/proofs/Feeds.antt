@@ -1,25 +1,24 @@
 -- Feeding a block line by line, and what a call can rely on: its answers fit, and it takes something.
 -- Assumes nothing.
-use mathlib.Core.Path.{_≡_, refl, sym, _∙_, ap, ap₂}
-use mathlib.Core.Bool.{Bool, true, false, not}
-use mathlib.Core.List.{List, [], _∷_, _++_, append-assoc, append-nil}
-use Prim.Native.Nat.{ℕ, suc, _+_, _-_, _≤_, _<_}
+use mathlib.Core.Path.{_≡_, refl, sym, _∙_, ap}
+use mathlib.Core.Bool.{true, false, not}
+use mathlib.Core.List.{List, [], _∷_, _++_, append-nil}
+use Prim.Native.Nat.{ℕ, _+_, _-_, _≤_, _<_}
 use native.Mathlib.Nat.{add-assoc}
 use native.Mathlib.Omega.{arith}
 use lib.Dec.{eqb}
 use lib.ListN.{length, take, length-append}
 use lib.Seq.{sets, append-snoc, take-all}
 use borrow.Author.Tests.{leb-true, le-leb, not-true}
-use Rattle.layout.specs.Basics.{all}
 use Rattle.layout.proofs.Basics.{and-true}
-use Rattle.listing.specs.Listing.{lineOf}
+use Rattle.listing.specs.Listing.{lineFeed, lineOf}
 use Rattle.listing.specs.declared.Fed.{Fed}
-use Rattle.listing.specs.Laid.{Laid}
+use Rattle.writer.specs.Laid.{Laid}
 use Rattle.listing.specs.Feeding.{roomy, kept, Feeding, saying, feeding, lastOf, lastIn, Left, leaving, leftBy, unended}
 use Rattle.listing.proofs.Bound.{line-most}
 use Rattle.listing.proofs.Cases.{true-or}
 use Rattle.listing.proofs.Kept.{line-kept, take-more, length-kept}
-use Rattle.listing.proofs.Laying.{sets-append}
+use Rattle.listing.proofs.Still.{sets-append}
 
 -- ---- one line
 
@@ -33,16 +32,16 @@ pub fed-plain : (room : ℕ) (line l rest : List ℕ) → roomy room ≡ true �
     → feeding room line (l ++ rest) ≡ feeding room (kept (line ++ l)) rest
 fed-plain room line [] rest r h u = ap (λ (k : List ℕ). feeding room k rest) (sym (take-all 2037 line h) ∙ ap kept (sym (append-nil line)))
 fed-plain room line (c ∷ cs) rest r h u =
-    let p = and-true (not (eqb c 10)) (unended cs) u in
-    rw (r, not-true (eqb c 10) (p .0))
+    let p = and-true (not (eqb c lineFeed)) (unended cs) u in
+    rw (r, not-true (eqb c lineFeed) (p .0))
     (fed-plain room (kept (line ++ (c ∷ []))) cs rest r (length-kept (line ++ (c ∷ []))) (p .1)
     ∙ ap (λ (k : List ℕ). feeding room k rest) (take-more 2037 (line ++ (c ∷ [])) cs ∙ ap kept (append-snoc line c cs)))
 
 -- and a line feed ends the line
 pub fed-line : (room : ℕ) (line l rest : List ℕ) → roomy room ≡ true → length line ≤ 2037 → unended l ≡ true
-    → feeding room line (l ++ (10 ∷ rest)) ≡ saying (lineOf (line ++ l)) (feeding (room - length (lineOf (line ++ l))) [] rest)
+    → feeding room line (l ++ (lineFeed ∷ rest)) ≡ saying (lineOf (line ++ l)) (feeding (room - length (lineOf (line ++ l))) [] rest)
 fed-line room line l rest r h u =
-    fed-plain room line l (10 ∷ rest) r h u
+    fed-plain room line l (lineFeed ∷ rest) r h u
     ∙ rw r (ap (λ (t : List ℕ). saying t (feeding (room - length t) [] rest)) (line-kept (line ++ l)))
 
 -- ---- what a call leaves
@@ -65,7 +64,7 @@ said-fits room line [] = omega arith
 said-fits room line (c ∷ cs) =
     true-or (roomy room)
     (λ r.
-    true-or (eqb c 10)
+    true-or (eqb c lineFeed)
     (λ e.
     let t = lineOf line in
     rw (r, e) (omega (arith, length-append t (feeding (room - length t) [] cs .said), said-fits (room - length t) [] cs, line-most line, leb-true 4096 room r)))
@@ -78,7 +77,7 @@ rest-most room line [] = omega arith
 rest-most room line (c ∷ cs) =
     true-or (roomy room)
     (λ r.
-    true-or (eqb c 10)
+    true-or (eqb c lineFeed)
     (λ e. rw (r, e) (omega (arith, rest-most (room - length (lineOf line)) [] cs)))
     (λ e. rw (r, e) (omega (arith, rest-most room (kept (line ++ (c ∷ []))) cs))))
     (λ r. rw r (omega arith))
@@ -87,7 +86,7 @@ rest-most room line (c ∷ cs) =
 pub rest-less : (room : ℕ) (line block : List ℕ) → roomy room ≡ true → 0 < length block → length (feeding room line block .rest) < length block
 rest-less room line [] r h = absurd (omega arith)
 rest-less room line (c ∷ cs) r h =
-    true-or (eqb c 10)
+    true-or (eqb c lineFeed)
     (λ e. rw (r, e) (omega (arith, rest-most (room - length (lineOf line)) [] cs)))
     (λ e. rw (r, e) (omega (arith, rest-most room (kept (line ++ (c ∷ []))) cs)))
 

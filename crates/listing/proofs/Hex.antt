@@ -1,16 +1,16 @@
 -- What the digits of a line say, pair by pair.
 -- Assumes nothing.
-use mathlib.Core.Path.{_≡_, refl, _∙_, ap}
-use mathlib.Core.Bool.{Bool, true, false}
+use mathlib.Core.Path.{_≡_, _∙_, ap}
+use mathlib.Core.Bool.{true, false}
 use mathlib.Core.List.{List, [], _∷_}
 use mathlib.Core.Logic.{_⊎_, inl, inr, ⊎-elim}
-use Prim.Native.Nat.{ℕ, zero, suc, _+_, _-_, _*_, _≤_, _<_}
+use Prim.Native.Nat.{ℕ, suc, _+_, _-_, _*_, _≤_, _<_}
 use native.Mathlib.Numerals.{add-one}
 use native.Mathlib.Omega.{arith}
 use borrow.Author.Tests.{lt-ltb, le-ltb, le-leb, lt-leb}
 use lib.ListN.{length, getD, drop}
 use lib.Seq.{drop-cons}
-use Rattle.layout.specs.Basics.{_and_, all}
+use Rattle.layout.specs.Basics.{all}
 use Rattle.layout.proofs.Octets.{AreOctets, none-are, cons-are}
 use Rattle.listing.specs.Listing.{among, digitOf, isDigit, octetOf, octetsIn}
 use Rattle.listing.proofs.Cases.{below-or}

@@ -1,19 +1,18 @@
 -- What is kept of a line answers for the whole of it.
 -- Assumes nothing.
 use mathlib.Core.Path.{_≡_, refl, sym, _∙_, ap}
-use mathlib.Core.Bool.{true}
 use mathlib.Core.List.{List, [], _∷_, _++_}
 use Prim.Native.Nat.{ℕ, zero, suc, _≤_, _<_, min}
 use native.Mathlib.Omega.{arith}
 use borrow.Author.Tests.{lt-ltb}
 use lib.ListN.{length, take, length-take}
 use lib.Seq.{take-all}
-use Rattle.listing.specs.Listing.{mostDigits, unreadable, unreadableText, lineOf}
+use Rattle.listing.specs.Listing.{ascii, lineOf}
 use Rattle.listing.specs.Feeding.{kept}
 use Rattle.listing.proofs.Cases.{below-or}
 
 -- too long a line can't be read
-too-long : (l : List ℕ) → 2036 < length l → lineOf l ≡ unreadableText
+too-long : (l : List ℕ) → 2036 < length l → lineOf l ≡ ascii "unreadable\n"
 unfolding lineOf
 too-long l h = rw (lt-ltb 2036 (length l) h)
 

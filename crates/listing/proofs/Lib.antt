@@ -1,5 +1,5 @@
 pub mod Cases
-pub mod Laying
+pub mod Still
 pub mod Decimal
 pub mod Hex
 pub mod Texts
@@ -8,3 +8,5 @@ pub mod Decoding
 pub mod Kept
 pub mod Blocks
 pub mod Feeds
+pub mod Sample
+pub mod Unique

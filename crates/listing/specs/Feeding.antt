@@ -9,7 +9,7 @@ use lib.Dec.{leb, eqb}
 use lib.ListN.{length, getD, take, drop}
 use lib.Seq.{sets}
 use Rattle.layout.specs.Basics.{if_then_else_, all}
-use Rattle.listing.specs.Listing.{mostDigits, badCount, octetsIn, unreadable, lineOf}
+use Rattle.listing.specs.Listing.{lineFeed, mostDigits, badCount, octetsIn, unreadable, lineOf}
 use Rattle.listing.specs.declared.Decoded.{Decoded}
 use Rattle.listing.specs.declared.Decoded.the-variants.{Octets, Unreadable}
 use Rattle.listing.specs.declared.Fed.{Fed}
@@ -52,20 +52,20 @@ pub record Feeding : Type 0 where
 abbrev pub saying : List ℕ → Feeding → Feeding
 saying t f = record { said = t ++ f .said; line = f .line; rest = f .rest }
 
--- octets fed one after another behind an unfinished line, while the output has room for any answer
-abbrev pub feeding : ℕ → List ℕ → List ℕ → Feeding
-feeding room line [] = record { said = []; line = line; rest = [] }
-feeding room line (c ∷ cs) =
-    if not (roomy room) then record { said = []; line = line; rest = c ∷ cs } else
-    if eqb c 10 then saying (lineOf line) (feeding (room - length (lineOf line)) [] cs) else
-    feeding room (kept (line ++ (c ∷ []))) cs
-
 -- the answer to a last line without its line feed: none if it is empty
 abbrev pub lastOf : List ℕ → List ℕ
 lastOf [] = []
 lastOf (c ∷ cs) = lineOf (c ∷ cs)
 
--- and in an output of that room
+-- octets fed one after another behind an unfinished line, while the output has room for any answer
+abbrev pub feeding : ℕ → List ℕ → List ℕ → Feeding
+feeding room line [] = record { said = []; line = line; rest = [] }
+feeding room line (c ∷ cs) =
+    if not (roomy room) then record { said = []; line = line; rest = c ∷ cs } else
+    if eqb c lineFeed then saying (lineOf line) (feeding (room - length (lineOf line)) [] cs) else
+    feeding room (kept (line ++ (c ∷ []))) cs
+
+-- the last line's answer in an output of that room
 abbrev pub lastIn : ℕ → List ℕ → List ℕ
 lastIn room l = if roomy room then lastOf l else []
 
@@ -95,13 +95,13 @@ leftBy r line out = record { taken = r .taken; held = r .held; line = take (r .h
 
 -- no line feed is among octets
 abbrev pub unended : List ℕ → Bool
-unended l = all (λ (c : ℕ). not (eqb c 10)) l
+unended l = all (λ (c : ℕ). not (eqb c lineFeed)) l
 
 -- a place of a block: the first line feed stands there, or it is the block's end and there is none
 pub record LineEnd (block : List ℕ) (i : ℕ) : Type 0 where
   pub within : i ≤ length block
   pub before : unended (take i block) ≡ true
-  pub there : i < length block → getD block i 0 ≡ 10
+  pub there : i < length block → getD block i 0 ≡ lineFeed
 
 -- feeding a block is feeding the part that the code took of it, and then the rest
 pub record Onward (block line out : List ℕ) (held at : ℕ) (r : Fed) (line′ out′ : List ℕ) : Type 0 where

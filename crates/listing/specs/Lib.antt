@@ -1,4 +1,3 @@
 pub mod Listing
 pub mod Feeding
-pub mod Laid
 pub mod Texts

@@ -1,13 +1,33 @@
--- The lister's answers (document 01, its last section): a line in hexadecimal is a frame, and the answer is a line of the frame's
--- fields. A text is a list of the octets of its characters.
+-- The lister's answers (document 01, its last section): a line in hexadecimal is a frame, and the answer to it is a line of the
+-- frame's fields. A text is a list of the octets of its characters.
 -- Assumes nothing.
-use mathlib.Core.Bool.{Bool, true, false, not}
+use mathlib.Core.Bool.{Bool, not}
 use mathlib.Core.List.{List, [], _∷_, _++_, map}
 use Prim.Native.Nat.{ℕ, zero, suc, _+_, _-_, _*_, _/_, _%_}
+use Prim.Native.Char.{code}
+use Prim.Native.String.{String}
+use Prim.Native.String as string
 use lib.Dec.{ltb, leb, eqb}
 use lib.ListN.{length}
 use Rattle.layout.specs.Basics.{if_then_else_, _and_, _or_, bit, all}
 use Rattle.layout.specs.Frames.{mostOctets, dataType, statusType, Range, Reading, data-of, status-of, refuse, readFrame}
+
+-- the octets of a text in ASCII
+abbrev pub ascii : String → List ℕ
+ascii string.[] = []
+ascii (string._∷_ c s) = code c ∷ ascii s
+
+abbrev pub lineFeed : ℕ
+lineFeed = code "\n"
+
+abbrev pub tab : ℕ
+tab = code "\t"
+
+abbrev pub comma : ℕ
+comma = code ","
+
+abbrev pub dash : ℕ
+dash = code "-"
 
 -- ---- a line in hexadecimal
 
@@ -15,9 +35,9 @@ use Rattle.layout.specs.Frames.{mostOctets, dataType, statusType, Range, Readin
 abbrev pub among : ℕ → ℕ → ℕ → ℕ → ℕ → ℕ
 among first n v c other = if leb first c and ltb c (first + n) then v + (c - first) else other
 
--- the value of a digit, `0` to `9`, `A` to `F` or `a` to `f`; 256, more than any octet, for another character
+-- the value of a digit, 0 to 9, A to F or a to f; 256, more than any octet, for another character
 unfoldable pub digitOf : ℕ → ℕ
-digitOf c = among 48 10 0 c (among 65 6 10 c (among 97 6 10 c 256))
+digitOf c = among (code "0") 10 0 c (among (code "A") 6 10 c (among (code "a") 6 10 c 256))
 
 abbrev pub isDigit : ℕ → Bool
 isDigit c = ltb (digitOf c) 16
@@ -32,11 +52,11 @@ octetsIn [] = []
 octetsIn (a ∷ []) = []
 octetsIn (a ∷ b ∷ cs) = if isDigit a and isDigit b then octetOf a b ∷ octetsIn cs else []
 
--- the most digits of a line: those of the longest frame, 2,036
+-- the most digits of a line, 2,036: those of the longest frame
 abbrev pub mostDigits : ℕ
 mostDigits = 2 * mostOctets
 
--- a line of too many characters or an odd count of them, whichever they are
+-- a count of characters that no readable line has: too many, or odd
 abbrev pub badCount : ℕ → Bool
 badCount n = ltb mostDigits n or not (eqb (n % 2) 0)
 
@@ -46,12 +66,12 @@ unreadable l = badCount (length l) or not (all isDigit l)
 
 -- ---- a frame's fields
 
--- the last k decimal digits of a number, or all of them if it has fewer
+-- the last k decimal digits of a number, or all if there are fewer
 abbrev pub digitsIn : ℕ → ℕ → List ℕ
 digitsIn zero n = []
-digitsIn (suc k) n = if ltb n 10 then (48 + n) ∷ [] else digitsIn k (n / 10) ++ ((48 + n % 10) ∷ [])
+digitsIn (suc k) n = if ltb n 10 then (code "0" + n) ∷ [] else digitsIn k (n / 10) ++ ((code "0" + n % 10) ∷ [])
 
--- a number in decimal; it has no more digits than it counts, but for 0, which has one
+-- a number in decimal: n has no more than n + 1 digits
 unfoldable pub decimal : ℕ → List ℕ
 decimal n = digitsIn (suc n) n
 
@@ -63,14 +83,14 @@ parted mark (p ∷ q ∷ ps) = p ++ mark ∷ parted mark (q ∷ ps)
 
 -- a range as start-end
 abbrev pub rangeText : Range → List ℕ
-rangeText r = decimal (r .start) ++ 45 ∷ decimal (r .end)
+rangeText r = decimal (r .start) ++ dash ∷ decimal (r .end)
 
 -- ranges joined by commas, or `none`
 abbrev pub rangesText : List Range → List ℕ
-rangesText [] = 110 ∷ 111 ∷ 110 ∷ 101 ∷ []
-rangesText (r ∷ rs) = parted 44 (map rangeText (r ∷ rs))
+rangesText [] = ascii "none"
+rangesText (r ∷ rs) = parted comma (map rangeText (r ∷ rs))
 
--- data: type, number; status: type, highest, desired, minimum, Final, ranges; refused: `refused`, number
+-- data: type, number; status: type, highest, desired, minimum, Final as 0 or 1, ranges; refused: `refused`, number
 abbrev pub fieldsOf : Reading → List (List ℕ)
 fieldsOf (data-of long n) = decimal (dataType long) ∷ decimal n ∷ []
 fieldsOf (status-of s) =
@@ -81,31 +101,27 @@ fieldsOf (status-of s) =
     ∷ decimal (bit (s .final))
     ∷ rangesText (s .ranges)
     ∷ []
-fieldsOf (refuse n) = (114 ∷ 101 ∷ 102 ∷ 117 ∷ 115 ∷ 101 ∷ 100 ∷ []) ∷ decimal n ∷ []
+fieldsOf (refuse n) = ascii "refused" ∷ decimal n ∷ []
 
 -- the fields parted by tabs, and the line's end
 unfoldable pub answerTo : Reading → List ℕ
-answerTo r = parted 9 (fieldsOf r) ++ (10 ∷ [])
+answerTo r = parted tab (fieldsOf r) ++ (lineFeed ∷ [])
 
 -- ---- the listing
 
--- `unreadable` and the line's end
-abbrev pub unreadableText : List ℕ
-unreadableText = 117 ∷ 110 ∷ 114 ∷ 101 ∷ 97 ∷ 100 ∷ 97 ∷ 98 ∷ 108 ∷ 101 ∷ 10 ∷ []
-
 -- the answer to a line, which is given without its line feed
 unfoldable pub lineOf : List ℕ → List ℕ
-lineOf l = if unreadable l then unreadableText else answerTo (readFrame (octetsIn l))
+lineOf l = if unreadable l then ascii "unreadable\n" else answerTo (readFrame (octetsIn l))
 
 -- a character in front of the first line
 abbrev pub onto : ℕ → List (List ℕ) → List (List ℕ)
 onto c [] = (c ∷ []) ∷ []
 onto c (l ∷ ls) = (c ∷ l) ∷ ls
 
--- the lines of an input: what line feeds end, and what stands behind the last of them, unless that is nothing
+-- the lines of an input: what each line feed ends, and what stands behind the last of them, unless that is nothing
 abbrev pub linesOf : List ℕ → List (List ℕ)
 linesOf [] = []
-linesOf (c ∷ cs) = if eqb c 10 then [] ∷ linesOf cs else onto c (linesOf cs)
+linesOf (c ∷ cs) = if eqb c lineFeed then [] ∷ linesOf cs else onto c (linesOf cs)
 
 -- the answers to lines, one after another
 abbrev pub answersTo : List (List ℕ) → List ℕ

@@ -3,7 +3,7 @@
 use mathlib.Core.List.{List, [], _∷_, _++_}
 use Prim.Native.Nat.{ℕ}
 use Rattle.layout.specs.Frames.{Range}
-use Rattle.listing.specs.Listing.{decimal, rangeText}
+use Rattle.listing.specs.Listing.{tab, comma, decimal, rangeText}
 
 -- a number with a mark behind it
 abbrev pub marked : ℕ → ℕ → List ℕ
@@ -12,9 +12,9 @@ marked n mark = decimal n ++ (mark ∷ [])
 -- numbers, each with a tab behind it
 abbrev pub tabbed : List ℕ → List ℕ
 tabbed [] = []
-tabbed (n ∷ ns) = marked n 9 ++ tabbed ns
+tabbed (n ∷ ns) = marked n tab ++ tabbed ns
 
 -- ranges, each with a comma before it
 abbrev pub moreText : List Range → List ℕ
 moreText [] = []
-moreText (r ∷ rs) = 44 ∷ (rangeText r ++ moreText rs)
+moreText (r ∷ rs) = comma ∷ (rangeText r ++ moreText rs)

@@ -2,26 +2,26 @@
 // The input comes in blocks of any size, and the answers go to a buffer that the caller writes out, so that an input of
 // any length takes the same memory.
 ghost use mathlib.Core.Path.{_≡_};
-ghost use mathlib.Core.List.{[], _∷_, _++_};
+ghost use mathlib.Core.List.{_++_};
 ghost use Prim.Native.Nat.{suc, _+_, _-_, _*_, _≤_, _<_, min};
 ghost use lib.ListN.{length, getD, take};
 ghost use Rattle.layout.specs.Basics.{bit};
-ghost use Rattle.layout.specs.Frames.{width, dataType, statusType, data-of, status-of, refuse, rangesAt, readFrame};
+ghost use Rattle.layout.specs.Frames.{dataType, statusType, data-of, refuse, readFrame};
 ghost use Rattle.reader.specs.Answers.{readingOf, cursorOf};
 ghost use Rattle.reader.specs.declared.Frame.the-variants.{Status};
 ghost use Rattle.reader.proofs.Walk.{ahead, Held};
-ghost use Rattle.listing.specs.Listing.{among, digitOf, octetOf, mostDigits, decimal, rangeText, rangesText, answerTo, lineOf};
+ghost use Rattle.listing.specs.Listing.{among, digitOf, octetOf, mostDigits, decimal, rangeText, rangesText, answerTo};
 ghost use Rattle.listing.specs.Feeding.{decodedOf, decodedInto, roomy, answerIn, frameIn, kept, feeding, lastIn, leaving, leftBy, LineEnd, Onward};
-ghost use Rattle.listing.specs.Laid.{Room, Laid};
+ghost use Rattle.writer.specs.Laid.{Room, Laid};
 ghost use Rattle.listing.specs.Texts.{marked, tabbed, moreText};
 
-const LINE_FEED: u8 = 10;
+const LINE_FEED: u8 = b'\n';
 
-const TAB: u8 = 9;
+const TAB: u8 = b'\t';
 
-const COMMA: u8 = 44;
+const COMMA: u8 = b',';
 
-const DASH: u8 = 45;
+const DASH: u8 = b'-';
 
 const MOST_DIGITS: usize = 2036; // the digits of the longest frame
 
@@ -46,12 +46,12 @@ pub struct Fed {
 // ---- hexadecimal
 
 // The value of c among count characters from first on, the first of which has the value given; other if it is none of
-// them. Both values are at hand before the test, so that no branch hangs on the input.
-fn value_among(first: u32, count: u32, value: u32, c: u32, other: u32) -> u32
+// them. Nothing but the choice of a value hangs on the test, so that mixed digits cost no jumps.
+fn value_among(first: u8, count: u32, value: u32, c: u8, other: u32) -> u32
     requires { ⌜ (first + count ≤ 256) × (value ≤ 16) ⌝ }
     ensures { λ r. ⌜ r ≡ among first count value c other ⌝ }
 {
-    let place = std::num::wrapping_sub_u32(c, first);
+    let place = std::num::wrapping_sub_u8(c, first) as u32;
     if place < count { value + place } else { other }
 }
 
@@ -59,10 +59,9 @@ fn value_among(first: u32, count: u32, value: u32, c: u32, other: u32) -> u32
 fn digit(c: u8) -> u32
     ensures { λ r. ⌜ r ≡ digitOf c ⌝ }
 {
-    let n = c as u32;
-    let lower = value_among(97, 6, 10, n, 256);
-    let upper = value_among(65, 6, 10, n, lower);
-    value_among(48, 10, 0, n, upper)
+    let lower = value_among(b'a', 6, 10, c, 256);
+    let upper = value_among(b'A', 6, 10, c, lower);
+    value_among(b'0', 10, 0, c, upper)
 }
 
 // The octet that two digits from place i on say, or more than any octet.
@@ -160,11 +159,11 @@ fn put_decimal(n: u32, out: &mut [u8], at: usize) -> usize
     let mut i = end - 1;
     let mut rest = n;
     while 10 <= rest {
-        out[i] = 48 + (rest % 10) as u8;
+        out[i] = b'0' + (rest % 10) as u8;
         rest /= 10;
         i -= 1;
     }
-    out[i] = 48 + rest as u8;
+    out[i] = b'0' + rest as u8;
     end
 }
 

@@ -1,16 +1,16 @@
 -- `answer`: with room for any answer there is room for this one, which the decoded line's frame has. Assumes nothing.
-use Prim.Native.Nat.{ℕ, _+_, _-_, _≤_}
+use Prim.Native.Nat.{_-_}
 use native.Mathlib.Omega.{arith}
 use mathlib.Core.Bool.{true, false}
-use mathlib.Core.Path.{_≡_, refl, sym, _∙_, ap}
+use mathlib.Core.Path.{_≡_, refl, sym, _∙_}
 use lib.ListN.{length, take}
 use borrow.Author.Needs.{needs}
 use borrow.Author.Tests.{leb-true, not-true, not-false}
 use Rattle.layout.specs.Frames.{readFrame}
-use Rattle.listing.specs.Listing.{octetsIn, unreadable, unreadableText, answerTo, lineOf}
+use Rattle.listing.specs.Listing.{ascii, octetsIn, unreadable, answerTo, lineOf}
 use Rattle.listing.specs.Feeding.{roomy}
-use Rattle.listing.specs.Laid.{Room}
-use Rattle.listing.proofs.Laying.{laid-none}
+use Rattle.writer.specs.Laid.{Room}
+use Rattle.writer.proofs.Laying.{laid-none}
 use Rattle.listing.proofs.Bound.{line-most}
 use Rattle.listing.proofs.Decoding.{says-octets, octets-fit, front-octets, line-read, line-unread}
 use Rattle.listing.proofs.answer.Statement.{statement}
@@ -33,7 +33,7 @@ says : (c : tie.After-n)
 says c = says-octets (c .before .before .before .before .before .before .before .before .args .line .now) _ (sym (c .before .before .decode .ensures .0) ∙ c .n .given .1)
 
 -- or none
-says-none : (c : tie.After-enum-told) → let l = c .before .before .before .before .before .before .before .before .args .line .now in lineOf l ≡ unreadableText
+says-none : (c : tie.After-enum-told) → let l = c .before .before .before .before .before .before .before .before .args .line .now in lineOf l ≡ ascii "unreadable\n"
 says-none c = line-unread (c .before .before .before .before .before .before .before .before .args .line .now) (sym (c .before .before .decode .ensures .0) ∙ c .enum-told .given .1)
 
 -- the octets stand at the front of the buffer, and their answer is the line's

@@ -1,7 +1,7 @@
 -- `decode`: each turn stores the octet of the next pair, and the first pair that says none ends it. Assumes nothing.
 use Prim.Native.Nat.{ℕ, _+_, _-_, _*_, _/_, _%_, _≤_, _<_}
 use native.Mathlib.Omega.{arith}
-use mathlib.Core.Bool.{Bool, true, false}
+use mathlib.Core.Bool.{true, false}
 use mathlib.Core.List.{List, []}
 use mathlib.Core.Path.{_≡_, refl, sym, _∙_, ap}
 use lib.ListN.{length, getD, set, drop, drop-of-length-le}
@@ -12,7 +12,8 @@ use Rattle.layout.specs.Basics.{all}
 use Rattle.listing.specs.Listing.{isDigit, octetOf, octetsIn, badCount}
 use Rattle.listing.specs.declared.Decoded.the-variants.{Octets}
 use Rattle.listing.proofs.Hex.{octets-pair, digits-pair, octets-other, digits-other, pair-at}
-use Rattle.listing.proofs.Laying.{Still, still-all, still-on, laid-octet, laid-none}
+use Rattle.writer.proofs.Laying.{laid-octet, laid-none}
+use Rattle.listing.proofs.Still.{Still, still-all, still-on}
 use Rattle.listing.proofs.decode.Statement.{statement}
 use Rattle.listing.proofs.decode.Tie as tie
 

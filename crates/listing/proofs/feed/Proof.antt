@@ -1,15 +1,14 @@
 -- `feed`: each turn feeds one line more, and leaves the rest to be fed; where it stops, nothing more is. Assumes nothing.
-use Prim.Native.Nat.{ℕ, suc, _+_, _-_, _≤_, _<_}
+use Prim.Native.Nat.{ℕ, _+_, _-_, _≤_, _<_}
 use native.Mathlib.Nat.{add-zero}
 use native.Mathlib.Omega.{arith}
-use mathlib.Core.Bool.{true, false}
-use mathlib.Core.List.{List, [], _++_}
+use mathlib.Core.List.{List, []}
 use mathlib.Core.Path.{_≡_, refl, sym, _∙_, ap}
 use lib.ListN.{length, take, drop, length-drop, drop-of-length-le}
 use lib.Seq.{length-take-le, take-all, drop-drop}
 use borrow.Author.Needs.{needs}
 use borrow.Author.Tests.{leb-true, not-true, not-false}
-use Rattle.listing.specs.Feeding.{roomy, feeding, leaving, leftBy, Onward}
+use Rattle.listing.specs.Feeding.{feeding, leaving, leftBy, Onward}
 use Rattle.listing.proofs.Feeds.{fed-full}
 use Rattle.listing.proofs.Kept.{take-held}
 use Rattle.listing.proofs.feed.Statement.{statement}

@@ -1,21 +1,21 @@
 -- `feed_line`: a line feed ends the unfinished line and what stands before it, which are answered; a block without one is held.
 -- Assumes nothing.
-use Prim.Native.Nat.{ℕ, suc, _+_, _-_, _≤_, _<_}
+use Prim.Native.Nat.{ℕ, _+_, _-_, _≤_, _<_}
 use native.Mathlib.Numerals.{add-one}
 use native.Mathlib.Omega.{arith}
 use mathlib.Core.Bool.{true}
 use mathlib.Core.List.{List, [], _∷_, _++_, append-nil}
 use mathlib.Core.Path.{_≡_, refl, sym, _∙_, ap, ap₂}
-use lib.ListN.{length, getD, take, drop, length-take, drop-of-length-le}
-use lib.Seq.{sets, length-sets, length-take-le, take-all, split-at}
+use lib.ListN.{length, take, drop, length-take, drop-of-length-le}
+use lib.Seq.{length-take-le, take-all, split-at}
 use borrow.Author.Needs.{needs}
 use borrow.Author.Tests.{le-leb}
-use Rattle.listing.specs.Listing.{lineOf}
-use Rattle.listing.specs.Laid.{Room, Laid}
+use Rattle.listing.specs.Listing.{lineFeed, lineOf}
+use Rattle.writer.specs.Laid.{Room, Laid}
 use Rattle.listing.specs.Feeding.{roomy, answerIn, kept, feeding, leaving, unended, LineEnd, Onward}
 use Rattle.listing.proofs.Feeds.{fed-plain, fed-line, leaving-saying}
 use Rattle.listing.proofs.Kept.{line-kept}
-use Rattle.listing.proofs.Laying.{laid-length}
+use Rattle.writer.proofs.Laying.{laid-length}
 use Rattle.listing.proofs.feed_line.Statement.{statement}
 use Rattle.listing.proofs.feed_line.Tie as tie
 
@@ -47,7 +47,7 @@ module _ (block line out : List ℕ) (held at end : ℕ) (ends : LineEnd block e
   answered x line′ out′ at′ inside size is laid =
       let t = lineOf (take held line ++ take end block) in
       let rest = drop (end + 1) block in
-      let cut : block ≡ take end block ++ (10 ∷ rest)
+      let cut : block ≡ take end block ++ (lineFeed ∷ rest)
       = split-at block end 0 inside ∙ ap₂ (λ (c k : ℕ). take end block ++ (c ∷ drop k block)) (ends .there inside) (sym (add-one end)) in
       let said : Laid out at t at′ out′ = rw (has-room, is) at laid in
       let left : length out′ - at′ ≡ length out - at - length t = omega (arith, laid-length said, said .behind) in

@@ -1,14 +1,14 @@
 -- `finish`: a line that is held at the input's end is answered as any other; an empty one is none. Assumes nothing.
-use Prim.Native.Nat.{ℕ, _-_, _<_, min}
+use Prim.Native.Nat.{ℕ, _-_, _<_}
 use native.Mathlib.Omega.{arith}
 use mathlib.Core.List.{List, [], _∷_}
-use mathlib.Core.Path.{_≡_, refl, sym, _∙_, ap}
+use mathlib.Core.Path.{_≡_, refl}
 use lib.ListN.{length, take, length-take}
 use borrow.Author.Needs.{needs}
 use Rattle.listing.specs.Feeding.{roomy, answerIn, lastIn}
 use Rattle.listing.proofs.Cases.{true-or}
 use Rattle.listing.proofs.Kept.{take-held}
-use Rattle.listing.proofs.Laying.{laid-none}
+use Rattle.writer.proofs.Laying.{laid-none}
 use Rattle.listing.proofs.finish.Statement.{statement}
 use Rattle.listing.proofs.finish.Tie as tie
 

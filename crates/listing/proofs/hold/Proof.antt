@@ -1,5 +1,5 @@
 -- `hold`: what is laid behind the held octets, up to the buffer's end, is what is kept of both. Assumes nothing.
-use Prim.Native.Nat.{ℕ, _+_, _-_, _≤_, _<_, min}
+use Prim.Native.Nat.{ℕ, _+_, _-_, _≤_, min}
 use native.Mathlib.Omega.{arith}
 use mathlib.Core.List.{List, _++_}
 use mathlib.Core.Path.{_≡_, sym, _∙_, ap, ap₂}
@@ -7,7 +7,7 @@ use lib.ListN.{length, take, drop, length-append}
 use lib.Seq.{sets, sets-eq, length-take-le, take-all, take-at, take-append-add}
 use borrow.Author.Needs.{needs}
 use Rattle.listing.proofs.Cases.{below-or}
-use Rattle.listing.proofs.Laying.{laid-length}
+use Rattle.writer.proofs.Laying.{laid-length}
 use Rattle.listing.proofs.hold.Statement.{statement}
 use Rattle.listing.proofs.hold.Tie as tie
 

@@ -1,5 +1,5 @@
 -- `line_end`: no octet that was passed is a line feed. Assumes nothing.
-use Prim.Native.Nat.{ℕ, zero, suc, _+_, _-_, _≤_, _<_}
+use Prim.Native.Nat.{ℕ, zero, suc, _-_, _≤_, _<_}
 use native.Mathlib.Omega.{arith}
 use native.Mathlib.Numerals.{add-one}
 use mathlib.Core.Bool.{true, not}
@@ -10,15 +10,16 @@ use lib.ListN.{length, getD, take}
 use borrow.Author.Tests.{ne-eqb}
 use borrow.Author.Needs.{needs}
 use Rattle.layout.proofs.Basics.{and-true}
+use Rattle.listing.specs.Listing.{lineFeed}
 use Rattle.listing.specs.Feeding.{unended}
 use Rattle.listing.proofs.line_end.Statement.{statement}
 use Rattle.listing.proofs.line_end.Tie as tie
 
 -- one octet more that is no line feed
-more : (l : List ℕ) (i : ℕ) → i < length l → unended (take i l) ≡ true → (getD l i 0 ≡ 10 → ⊥) → unended (take (suc i) l) ≡ true
+more : (l : List ℕ) (i : ℕ) → i < length l → unended (take i l) ≡ true → (getD l i 0 ≡ lineFeed → ⊥) → unended (take (suc i) l) ≡ true
 more [] i h e n = absurd (let no : ⊥ = omega arith in no)
-more (x ∷ l) zero h e n = rw (ne-eqb x 10 n)
-more (x ∷ l) (suc i) h e n = let p = and-true (not (eqb x 10)) (unended (take i l)) e in rw (p .0) (more l i (omega arith) (p .1) n)
+more (x ∷ l) zero h e n = rw (ne-eqb x lineFeed n)
+more (x ∷ l) (suc i) h e n = let p = and-true (not (eqb x lineFeed)) (unended (take i l)) e in rw (p .0) (more l i (omega arith) (p .1) n)
 
 abbrev Inv-loop : tie.InvT-loop
 Inv-loop block i₀ i = (i ≤ length block) × (unended (take i block) ≡ true)

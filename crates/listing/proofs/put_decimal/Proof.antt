@@ -1,25 +1,26 @@
 -- `put_decimal`: each turn stores the last digit of what is left, and leaves its tenth to be laid before it. Assumes nothing.
 use Prim.Native.Nat.{ℕ, _+_, _-_, _/_, _%_, _≤_, _<_}
+use Prim.Native.Char.{code}
 use native.Mathlib.Omega.{arith}
-use mathlib.Core.List.{List, [], _∷_, _++_}
+use mathlib.Core.List.{List, [], _∷_}
 use mathlib.Core.Path.{_≡_, refl, sym, _∙_, ap}
-use lib.ListN.{length, set, length-append, length-set}
+use lib.ListN.{length, set, length-set}
 use lib.Seq.{sets}
 use borrow.Author.Needs.{needs}
 use Rattle.listing.specs.Listing.{decimal}
 use Rattle.listing.proofs.Decimal.{decimal-one, decimal-more, decimal-some, length-more}
-use Rattle.listing.proofs.Laying.{sets-append, sets-set}
+use Rattle.listing.proofs.Still.{sets-append, sets-set}
 use Rattle.listing.proofs.put_decimal.Statement.{statement}
 use Rattle.listing.proofs.put_decimal.Tie as tie
 
 -- the last digit first, and then the others before it
-last-first : (d : List ℕ) (at i n : ℕ) → 10 ≤ n → i + 1 ≡ at + length (decimal n) → sets (set d i (48 + n % 10)) at (decimal (n / 10)) ≡ sets d at (decimal n)
+last-first : (d : List ℕ) (at i n : ℕ) → 10 ≤ n → i + 1 ≡ at + length (decimal n) → sets (set d i (code "0" + n % 10)) at (decimal (n / 10)) ≡ sets d at (decimal n)
 last-first d at i n h e =
     let front : List ℕ = decimal (n / 10) in
     let place : i ≡ at + length front = omega (arith, length-more n h) in
-    sym (sets-set d front at i (48 + n % 10) (omega arith))
-    ∙ ap (λ (k : ℕ). set (sets d at front) k (48 + n % 10)) place
-    ∙ sets-append d front ((48 + n % 10) ∷ []) at
+    sym (sets-set d front at i (code "0" + n % 10) (omega arith))
+    ∙ ap (λ (k : ℕ). set (sets d at front) k (code "0" + n % 10)) place
+    ∙ sets-append d front ((code "0" + n % 10) ∷ []) at
     ∙ ap (sets d at) (sym (decimal-more n h))
 
 abbrev Inv-loop : tie.InvT-loop
@@ -84,11 +85,11 @@ returns : tie.Need-returns Inv-loop μ-loop
 returns c =
     let l = c .before .loop in
     let at = c .before .before .before .before .args .at in
-    let one : decimal (l .rest) ≡ (48 + l .rest) ∷ [] = decimal-one (l .rest) (c .loop-test .left) in
+    let one : decimal (l .rest) ≡ (code "0" + l .rest) ∷ [] = decimal-one (l .rest) (c .loop-test .left) in
     let place : l .i ≡ at = omega (arith, l .inv .0, ap length one) in
     record {
       behind = ap (λ (k : ℕ). at + k) (c .before .before .digits-of .ensures);
-      buffer = ap (λ (k : ℕ). set (l .out) k (48 + l .rest)) place ∙ (rw one at (l .inv .3));
+      buffer = ap (λ (k : ℕ). set (l .out) k (code "0" + l .rest)) place ∙ (rw one at (l .inv .3));
     }
 
 pub put-decimal-spec : {M : Type 1} → statement M

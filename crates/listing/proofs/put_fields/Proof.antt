@@ -7,8 +7,9 @@ use mathlib.Core.Path.{_≡_, refl}
 use lib.ListN.{length, getD, drop, drop-of-length-le}
 use lib.Seq.{drop-cons}
 use borrow.Author.Needs.{needs}
+use Rattle.listing.specs.Listing.{tab}
 use Rattle.listing.specs.Texts.{marked, tabbed}
-use Rattle.listing.proofs.Laying.{Still, still-all, still-on, still-none, still-length, still-room, room-first}
+use Rattle.listing.proofs.Still.{Still, still-all, still-on, still-none, still-length, still-room, room-first}
 use Rattle.listing.proofs.put_fields.Statement.{statement}
 use Rattle.listing.proofs.put_fields.Tie as tie
 
@@ -19,7 +20,7 @@ abbrev μ-loop : tie.MeasureT-loop
 μ-loop numbers out₀ at at₀ i₀ out at′ i = length numbers - i
 
 -- the next number and those behind it
-next : (ns : List ℕ) (i : ℕ) → i < length ns → tabbed (drop i ns) ≡ marked (getD ns i 0) 9 ++ tabbed (drop (i + 1) ns)
+next : (ns : List ℕ) (i : ℕ) → i < length ns → tabbed (drop i ns) ≡ marked (getD ns i 0) tab ++ tabbed (drop (i + 1) ns)
 next ns i h = rw (add-one, drop-cons ns i 0)
 
 loop-holds : tie.Need-loop-holds Inv-loop μ-loop
@@ -37,7 +38,7 @@ put-marked-requires c κs =
     let l = c .before .before .before .loop in
     let ns = s .args .numbers .now in
     let still = rw (next ns (l .i) (c .before .before .loop-test .taken)) at (l .inv .1) in
-    room-first (l .out) (l .at) (marked (getD ns (l .i) 0) 9) (tabbed (drop (l .i + 1) ns)) (still-room still (s .pre))
+    room-first (l .out) (l .at) (marked (getD ns (l .i) 0) tab) (tabbed (drop (l .i + 1) ns)) (still-room still (s .pre))
 
 add-i : tie.Need-add-i Inv-loop μ-loop
 add-i c = search needs

@@ -4,7 +4,8 @@ use mathlib.Core.List.{[], _∷_}
 use mathlib.Core.Path.{refl}
 use borrow.Author.Needs.{needs}
 use Rattle.listing.specs.Listing.{decimal}
-use Rattle.listing.proofs.Laying.{laid-none, laid-octet, laid-then, room-first, room-then}
+use Rattle.writer.proofs.Laying.{laid-none, laid-octet, laid-then}
+use Rattle.listing.proofs.Still.{room-first, room-then}
 use Rattle.listing.proofs.put_marked.Statement.{statement}
 use Rattle.listing.proofs.put_marked.Tie as tie
 

@@ -1,14 +1,15 @@
 -- `put_more`: each turn lays the next range of those ahead behind a comma. Assumes nothing.
-use Prim.Native.Nat.{ℕ, _+_, _<_}
+use Prim.Native.Nat.{_+_}
 use native.Mathlib.Omega.{arith}
 use mathlib.Core.List.{[], _∷_, _++_}
-use mathlib.Core.Path.{_≡_, refl, sym, _∙_, ap}
+use mathlib.Core.Path.{refl, sym, _∙_}
 use lib.ListN.{set}
 use borrow.Author.Needs.{needs}
 use Rattle.reader.proofs.Walk.{ahead, Held, Went, went, ended}
-use Rattle.listing.specs.Listing.{rangeText}
+use Rattle.listing.specs.Listing.{comma, rangeText}
 use Rattle.listing.specs.Texts.{moreText}
-use Rattle.listing.proofs.Laying.{Still, still-all, still-on, still-none, still-length, still-room, laid-none, laid-octet, room-first}
+use Rattle.writer.proofs.Laying.{laid-none, laid-octet}
+use Rattle.listing.proofs.Still.{Still, still-all, still-on, still-none, still-length, still-room, room-first}
 use Rattle.listing.proofs.put_more.Statement.{statement}
 use Rattle.listing.proofs.put_more.Tie as tie
 
@@ -53,7 +54,7 @@ still-here : (c : tie.After-known-told Inv-loop μ-loop)
     let l = c .before .before .before .before .loop in
     let step = c .before .step .given .0 in
     Still (a .out .now) (a .at) (moreText (ahead (a .frame .now) (a .cursor))) (l .out) (l .at)
-    (44 ∷ (rangeText (record { start = step .0; end = step .1 .0 }) ++ moreText (ahead (a .frame .now) (step .1 .1 .0))))
+    (comma ∷ (rangeText (record { start = step .0; end = step .1 .0 }) ++ moreText (ahead (a .frame .now) (step .1 .1 .0))))
 still-here c = rw (here c .split) at (c .before .before .before .before .loop .inv .1)
 
 -- and behind the comma the others
@@ -61,9 +62,9 @@ still-behind : (c : tie.After-known-told Inv-loop μ-loop)
     → let a = c .before .before .before .before .before .before .before .args in
     let l = c .before .before .before .before .loop in
     let step = c .before .step .given .0 in
-    Still (a .out .now) (a .at) (moreText (ahead (a .frame .now) (a .cursor))) (set (l .out) (l .at) 44) (l .at + 1)
+    Still (a .out .now) (a .at) (moreText (ahead (a .frame .now) (a .cursor))) (set (l .out) (l .at) comma) (l .at + 1)
     (rangeText (record { start = step .0; end = step .1 .0 }) ++ moreText (ahead (a .frame .now) (step .1 .1 .0)))
-still-behind c = still-on {xs = 44 ∷ []} (still-here c) (laid-octet refl (laid-none _ refl))
+still-behind c = still-on {xs = comma ∷ []} (still-here c) (laid-octet refl (laid-none _ refl))
 
 slice-write-out : tie.Need-slice-write-out Inv-loop μ-loop
 slice-write-out c = omega (arith, still-room (still-here c) (c .before .before .before .before .before .before .before .pre .1))
@@ -78,7 +79,7 @@ put-range-requires c κs =
     let s = c .before .before .before .before .before .before .before .before in
     let l = c .before .before .before .before .before .loop in
     let step = c .before .before .step .given .0 in
-    room-first (set (l .out) (l .at) 44) (l .at + 1) (rangeText (record { start = step .0; end = step .1 .0 })) (moreText (ahead (s .args .frame .now) (step .1 .1 .0)))
+    room-first (set (l .out) (l .at) comma) (l .at + 1) (rangeText (record { start = step .0; end = step .1 .0 })) (moreText (ahead (s .args .frame .now) (step .1 .1 .0)))
     (still-room (still-behind (c .before)) (s .pre .1))
 
 loop-less : tie.Need-loop-less Inv-loop μ-loop

@@ -1,11 +1,9 @@
 -- `put_range`: the start with its dash, and the end. Assumes nothing.
-use Prim.Native.Nat.{ℕ}
-use lib.ListN.{length}
 use borrow.Author.Needs.{needs}
-use Rattle.listing.specs.Listing.{decimal}
-use Rattle.listing.specs.Laid.{Room}
+use Rattle.listing.specs.Listing.{dash, decimal}
 use Rattle.listing.specs.Texts.{marked}
-use Rattle.listing.proofs.Laying.{laid-then, room-first, room-then}
+use Rattle.writer.proofs.Laying.{laid-then}
+use Rattle.listing.proofs.Still.{room-first, room-then}
 use Rattle.listing.proofs.Texts.{range-text}
 use Rattle.listing.proofs.put_range.Statement.{statement}
 use Rattle.listing.proofs.put_range.Tie as tie
@@ -14,13 +12,13 @@ put-marked-requires : tie.Need-put-marked-requires
 put-marked-requires c κs =
     let s = c .before .before in
     let a = s .args in
-    room-first (a .out .now) (a .at) (marked (a .start) 45) (decimal (a .end)) (rw range-text at (s .pre))
+    room-first (a .out .now) (a .at) (marked (a .start) dash) (decimal (a .end)) (rw range-text at (s .pre))
 
 put-decimal-requires : tie.Need-put-decimal-requires
 put-decimal-requires c κs =
     let s = c .before .before .before .before .before .before in
     let a = s .args in
-    room-then (marked (a .start) 45) (decimal (a .end)) (c .before .before .before .put-marked .ensures) (rw range-text at (s .pre))
+    room-then (marked (a .start) dash) (decimal (a .end)) (c .before .before .before .put-marked .ensures) (rw range-text at (s .pre))
 
 same-length : tie.Need-same-length
 same-length c = search needs

@@ -2,12 +2,12 @@
 use mathlib.Core.List.{[], _++_}
 use mathlib.Core.Path.{_≡_, sym, _∙_, ap}
 use borrow.Author.Needs.{needs}
-use Rattle.layout.specs.Frames.{Range}
 use Rattle.reader.specs.Answers.{cursorOf}
 use Rattle.reader.proofs.Walk.{ahead, Went, went, ended}
 use Rattle.listing.specs.Listing.{rangeText, rangesText}
 use Rattle.listing.specs.Texts.{moreText}
-use Rattle.listing.proofs.Laying.{laid-then, room-first, room-then}
+use Rattle.writer.proofs.Laying.{laid-then}
+use Rattle.listing.proofs.Still.{room-first, room-then}
 use Rattle.listing.proofs.Texts.{ranges-text}
 use Rattle.listing.proofs.put_ranges.Statement.{statement}
 use Rattle.listing.proofs.put_ranges.Tie as tie

@@ -1,16 +1,12 @@
 -- `put_refused`: `refused` with a tab, and the number with the line's end. Assumes nothing.
-use mathlib.Core.List.{List, [], _∷_}
-use Prim.Native.Nat.{ℕ}
 use borrow.Author.Needs.{needs}
+use Rattle.listing.specs.Listing.{ascii, lineFeed}
 use Rattle.listing.specs.Texts.{marked}
-use Rattle.listing.proofs.Laying.{laid-then, room-first, room-then}
+use Rattle.writer.proofs.Laying.{laid-then}
+use Rattle.listing.proofs.Still.{room-first, room-then}
 use Rattle.listing.proofs.Texts.{refused-text}
 use Rattle.listing.proofs.put_refused.Statement.{statement}
 use Rattle.listing.proofs.put_refused.Tie as tie
-
--- `refused` with a tab
-abbrev word : List ℕ
-word = 114 ∷ 101 ∷ 102 ∷ 117 ∷ 115 ∷ 101 ∷ 100 ∷ 9 ∷ []
 
 slice-aggregate-put-text : tie.Need-slice-aggregate-put-text
 slice-aggregate-put-text c = search needs
@@ -19,12 +15,12 @@ put-text-requires : tie.Need-put-text-requires
 put-text-requires c κs =
     let s = c .before .before .before in
     let a = s .args in
-    room-first (a .out .now) (a .at) word (marked (a .number) 10) (rw refused-text at (s .pre))
+    room-first (a .out .now) (a .at) (ascii "refused\t") (marked (a .number) lineFeed) (rw refused-text at (s .pre))
 
 put-marked-requires : tie.Need-put-marked-requires
 put-marked-requires c κs =
     let s = c .before .before .before .before .before .before .before in
-    room-then word (marked (s .args .number) 10) (c .before .before .before .put-text .ensures) (rw refused-text at (s .pre))
+    room-then (ascii "refused\t") (marked (s .args .number) lineFeed) (c .before .before .before .put-text .ensures) (rw refused-text at (s .pre))
 
 same-length : tie.Need-same-length
 same-length c = search needs

@@ -11,10 +11,11 @@ use Rattle.reader.specs.declared.Head.{Head}
 use Rattle.reader.specs.declared.Frame.the-variants.{Status}
 use Rattle.reader.specs.Answers.{readingOf, cursorOf}
 use Rattle.reader.proofs.Walk.{ahead}
-use Rattle.listing.specs.Listing.{rangesText, answerTo}
-use Rattle.listing.specs.Laid.{Laid, Room}
+use Rattle.listing.specs.Listing.{lineFeed, rangesText, answerTo}
+use Rattle.writer.specs.Laid.{Laid, Room}
 use Rattle.listing.specs.Texts.{tabbed}
-use Rattle.listing.proofs.Laying.{laid-length, laid-none, laid-octet, laid-then, room-first, room-then}
+use Rattle.writer.proofs.Laying.{laid-length, laid-none, laid-octet, laid-then}
+use Rattle.listing.proofs.Still.{room-first, room-then}
 use Rattle.listing.proofs.Texts.{status-text}
 use Rattle.listing.proofs.put_status.Statement.{statement}
 use Rattle.listing.proofs.put_status.Tie as tie
@@ -26,7 +27,7 @@ fields h = statusType (h .long) ∷ h .highest ∷ h .desired ∷ h .minimum ∷
 abbrev ranges : List ℕ → Head → List ℕ
 ranges s h = rangesText (ahead s (cursorOf h))
 
-text : (s : List ℕ) (h : Head) → answerTo (readingOf s (Status h)) ≡ tabbed (fields h) ++ (ranges s h ++ (10 ∷ []))
+text : (s : List ℕ) (h : Head) → answerTo (readingOf s (Status h)) ≡ tabbed (fields h) ++ (ranges s h ++ (lineFeed ∷ []))
 text s h = status-text _
 
 status-type-requires : tie.Need-status-type-requires
@@ -43,7 +44,7 @@ put-fields-requires c κs =
     let s = c .before .before .before .before .before .before in
     let a = s .args in
     rw (c .before .before .before .status-type .ensures, c .before .before .flag .ensures)
-    (room-first (a .out .now) (a .at) (tabbed (fields (a .head))) (ranges (a .frame .now) (a .head) ++ (10 ∷ [])) (rw (text (a .frame .now) (a .head)) at (s .pre .1)))
+    (room-first (a .out .now) (a .at) (tabbed (fields (a .head))) (ranges (a .frame .now) (a .head) ++ (lineFeed ∷ [])) (rw (text (a .frame .now) (a .head)) at (s .pre .1)))
 
 -- the fields are laid
 laid-fields : (c : tie.After-put-fields)
@@ -54,24 +55,24 @@ laid-fields c = rw (c .before .before .before .before .status-type .ensures, c .
 -- and there is room for the ranges and the line's end
 room : (c : tie.After-put-fields)
     → let a = c .before .before .before .before .before .before .before .args in
-    Room (c .put-fields .last .1 .0) (c .put-fields .result) (length (ranges (a .frame .now) (a .head) ++ (10 ∷ [])))
+    Room (c .put-fields .last .1 .0) (c .put-fields .result) (length (ranges (a .frame .now) (a .head) ++ (lineFeed ∷ [])))
 room c =
     let s = c .before .before .before .before .before .before .before in
     let a = s .args in
-    room-then (tabbed (fields (a .head))) (ranges (a .frame .now) (a .head) ++ (10 ∷ [])) (laid-fields c) (rw (text (a .frame .now) (a .head)) at (s .pre .1))
+    room-then (tabbed (fields (a .head))) (ranges (a .frame .now) (a .head) ++ (lineFeed ∷ [])) (laid-fields c) (rw (text (a .frame .now) (a .head)) at (s .pre .1))
 
 put-ranges-requires : tie.Need-put-ranges-requires
 put-ranges-requires c κs =
     let d = c .before .before .before in
     let s = d .before .before .before .before .before .before .before in
-    (s .pre .0, room-first (d .put-fields .last .1 .0) (d .put-fields .result) (ranges (s .args .frame .now) (s .args .head)) (10 ∷ []) (room d))
+    (s .pre .0, room-first (d .put-fields .last .1 .0) (d .put-fields .result) (ranges (s .args .frame .now) (s .args .head)) (lineFeed ∷ []) (room d))
 
 -- and behind them for the line's end
 room-end : (c : tie.After-put-ranges) → c .put-ranges .result < length (c .put-ranges .last .1 .1 .0)
 room-end c =
     let d = c .before .before .before .before in
     let a = d .before .before .before .before .before .before .before .args in
-    omega (arith, room-then (ranges (a .frame .now) (a .head)) (10 ∷ []) (c .put-ranges .ensures) (room d))
+    omega (arith, room-then (ranges (a .frame .now) (a .head)) (lineFeed ∷ []) (c .put-ranges .ensures) (room d))
 
 slice-write-out : tie.Need-slice-write-out
 slice-write-out c = room-end (c .before .before)

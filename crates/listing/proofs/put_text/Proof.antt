@@ -4,7 +4,7 @@ use native.Mathlib.Omega.{arith}
 use mathlib.Core.Path.{refl}
 use lib.ListN.{length, drop, drop-of-length-le}
 use borrow.Author.Needs.{needs}
-use Rattle.listing.proofs.Laying.{Still, still-all, still-stored, still-none, still-length}
+use Rattle.listing.proofs.Still.{Still, still-all, still-stored, still-none, still-length}
 use Rattle.listing.proofs.put_text.Statement.{statement}
 use Rattle.listing.proofs.put_text.Tie as tie
 

@@ -1,5 +1,5 @@
 -- `value_among`: the wrapping difference is below count just where c is among the characters. Assumes nothing.
-use Prim.Native.Nat.{ℕ, _+_, _-_, _%_, _≤_, _<_}
+use Prim.Native.Nat.{ℕ, _+_, _-_, _≤_, _<_}
 use native.Mathlib.Omega.{arith}
 use mathlib.Core.Path.{_≡_}
 use borrow.Author.Needs.{needs}
@@ -16,8 +16,11 @@ none first n v c other h =
     (λ below. rw (lt-leb first c below))
     (λ from. rw (le-leb first c from, le-ltb c (first + n) (below-or c (first + n) (λ b. absurd (h from b)) (λ b. b))))
 
-wrapping-sub-u32-requires : tie.Need-wrapping-sub-u32-requires
-wrapping-sub-u32-requires c κs = search needs
+wrapping-sub-u8-requires : tie.Need-wrapping-sub-u8-requires
+wrapping-sub-u8-requires c κs = search needs
+
+cast-place : tie.Need-cast-place
+cast-place c = search needs
 
 add-result : tie.Need-add-result
 add-result c = search needs
@@ -35,4 +38,4 @@ returns-2 c =
     none (a .first) (a .count) (a .value) (a .c) (a .other) (λ from below. omega arith)
 
 pub value-among-spec : {M : Type 1} → statement M
-value-among-spec = tie.close (tie.spec wrapping-sub-u32-requires add-result returns returns-2)
+value-among-spec = tie.close (tie.spec wrapping-sub-u8-requires cast-place add-result returns returns-2)

@@ -1,40 +1,22 @@
--- What octets laid one after another make: the laws that every store is put together from, and what a loop still has to lay.
+-- Texts laid one after another: what the laws of octets laid leave to say of their room, and what a loop still has to lay.
 -- Assumes nothing.
 use mathlib.Core.Path.{_≡_, refl, sym, _∙_, ap}
 use mathlib.Core.List.{List, [], _∷_, _++_}
-use Prim.Native.Nat.{ℕ, zero, suc, _+_, _≤_, _<_}
-use native.Mathlib.Nat.{add-zero, add-suc, suc-add}
+use Prim.Native.Nat.{ℕ, suc, _+_, _≤_, _<_}
 use native.Mathlib.Numerals.{add-one}
 use native.Mathlib.Omega.{arith}
 use lib.ListN.{length, getD, set, drop, length-append}
 use lib.Seq.{sets, length-sets, drop-cons, set-comm}
-use Rattle.listing.specs.Laid.{Room, Laid}
+use Rattle.writer.specs.Laid.{Room, Laid}
+use Rattle.writer.proofs.Laying.{laid-length, laid-none, laid-octet, laid-then}
 
--- a buffer keeps its length
-pub laid-length : {d e os : List ℕ} {at next : ℕ} → Laid d at os next e → length e ≡ length d
-laid-length {d} {e} {os} {at} l = ap length (l .buffer) ∙ length-sets d at os
+-- octets stored
+stored : (d : List ℕ) (at : ℕ) (os : List ℕ) → Laid d at os (at + length os) (sets d at os)
+stored d at os = record { behind = refl; buffer = refl }
 
--- no octets: nothing changes
-pub laid-none : (d : List ℕ) {at next : ℕ} → next ≡ at → Laid d at [] next d
-laid-none d {at} e = record { behind = e ∙ sym (add-zero at); buffer = refl }
-
--- one octet, and the others behind it
-pub laid-octet : {d e os : List ℕ} {at next x y : ℕ} → x ≡ y → Laid (set d at x) (at + 1) os next e → Laid d at (y ∷ os) next e
-laid-octet {d} {e} {os} {at} {next} {x} {y} same l = record {
-  behind = l .behind ∙ omega arith;
-  buffer = l .buffer ∙ rw (add-one at, same);
-}
-
+-- and others behind them are both stored
 pub sets-append : (d xs ys : List ℕ) (at : ℕ) → sets (sets d at xs) (at + length xs) ys ≡ sets d at (xs ++ ys)
-sets-append d [] ys at = rw (add-zero at)
-sets-append d (x ∷ xs) ys at = rw (add-suc at (length xs), ← suc-add at (length xs)) (sets-append (set d at x) xs ys (suc at))
-
--- octets, and others right behind them
-pub laid-then : {d e f xs ys : List ℕ} {at mid next : ℕ} → Laid d at xs mid e → Laid e mid ys next f → Laid d at (xs ++ ys) next f
-laid-then {d} {e} {f} {xs} {ys} {at} {mid} {next} k l = record {
-  behind = l .behind ∙ simp length-append (omega (arith, k .behind));
-  buffer = l .buffer ∙ simp (k .buffer, k .behind) (sets-append d xs ys at);
-}
+sets-append d xs ys at = laid-then (stored d at xs) (stored (sets d at xs) (at + length xs) ys) .buffer
 
 -- a store behind octets may come before them
 pub sets-set : (d xs : List ℕ) (at i x : ℕ) → at + length xs ≤ i → set (sets d at xs) i x ≡ sets (set d i x) at xs
