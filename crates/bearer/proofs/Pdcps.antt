@@ -9,25 +9,8 @@ use native.Mathlib.Omega.{arith}
 use native.Mathlib.Nat.{mod-eq-of-lt}
 use lib.ListN.{length, getD, length-append, List·getD-append}
 use lib.Seq.{getD-append-seam, getD-at}
-use Rattle.circle.specs.Circle.{forward, ahead, forward-from, forward-to, forward-lands, forward-below}
+use Rattle.circle.specs.Circle.{forward, forward-lands, forward-self, forward-rest}
 use Rattle.bearer.proofs.Members.{order}
-
--- forward from a to c is forward from a to b and then from b to c, where b isn't past c
-pub forward-rest : (P : ℕ) → 0 < P → (a b c : ℕ) → b < P → c < P → forward P a b ≤ forward P a c → forward P b c ≡ forward P a c - forward P a b
-forward-rest P pos a b c hb hc h =
-    let x = forward P a b in
-    let y = forward P a c in
-    let far : y < P = forward-below P pos a c in
-    sym (ap (λ (n : ℕ). forward P n c) (forward-lands P pos a b hb))
-    ∙ sym (ap (forward P ((a + x) % P)) (forward-lands P pos a c hc))
-    ∙ forward-from P pos (a + x) ((a + y) % P)
-    ∙ forward-to P pos (a + x) (a + y)
-    ∙ ap (forward P (a + x)) (let e : a + y ≡ a + x + (y - x) = omega arith in e)
-    ∙ ahead P pos (a + x) (y - x) (omega arith)
-
--- no distance from a number to itself
-pub forward-self : (P : ℕ) → 0 < P → (a : ℕ) → forward P a a ≡ 0
-forward-self P pos a = ap (forward P a) (let e : a ≡ a + 0 = omega arith in e) ∙ ahead P pos a 0 pos
 
 -- the PDCP number of a packet
 abbrev pub pdcpOf : List ℕ → ℕ → ℕ

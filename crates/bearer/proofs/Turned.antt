@@ -8,11 +8,11 @@ use mathlib.Core.Option.{Option, none, some}
 use mathlib.Core.Logic.{_⊎_, inl, inr}
 use Prim.Native.Nat.{ℕ, zero, suc, _+_, _%_, _<_}
 use native.Mathlib.Omega.{arith}
-use native.Mathlib.Nat.{mod-lt, mod-eq-of-lt}
+use native.Mathlib.Nat.{mod-lt}
 use borrow.Author.Tests.{eqb-true, eqb-false}
 use lib.Dec.{eqb}
 use lib.ListN.{length}
-use Rattle.circle.specs.Circle.{forward, ahead, forward-to, forward-lands}
+use Rattle.circle.specs.Circle.{forward, forward-self, one-nearer}
 use Rattle.layout.specs.Basics.{if_then_else_}
 use Rattle.layout.specs.Frames.{Range}
 use Rattle.bearer.specs.Bearer.{numbers}
@@ -22,7 +22,6 @@ use Rattle.bearer.specs.Meaning.{Each}
 use Rattle.bearer.specs.LedgerMeaning.{TurnedLost, turned-end, turns, as-it-was}
 use Rattle.bearer.proofs.Lists.{tested, and-true}
 use Rattle.bearer.proofs.ImageLaws.{positive}
-use Rattle.bearer.proofs.Pdcps.{forward-rest, forward-self}
 
 -- what a pass found where it found all, behind a first entry
 record Noted (hit : Bool) (e : Entry ℕ) (x : Option (Passed ℕ)) (m : Passed ℕ) : Type 0 where
@@ -42,20 +41,6 @@ bears-number e n t = let b = and-true (waits e) (eqb (e .number) n) t in (b .0, 
 
 turns-number : {ns : List ℕ} {es ds : List (Entry ℕ)} (e : Entry ℕ) (n : ℕ) → (waits e ≡ true) × (e .number ≡ n) → TurnedLost ns es ds → TurnedLost (n ∷ ns) (e ∷ es) (asLost e ∷ ds)
 turns-number e n b t = rw (← b .1) (turns e (b .0) t)
-
--- a number's successor is one nearer to any other number
-one-nearer : (M : ℕ) → 0 < M → (a b : ℕ) → a < M → b < M → (a ≡ b → ⊥) → forward M a b ≡ suc (forward M ((a + 1) % M) b)
-one-nearer M pos a b ha hb apart =
-    let next : forward M a ((a + 1) % M) ≡ 1 = forward-to M pos a (a + 1) ∙ ahead M pos a 1 (omega arith) in
-    let some-way : 0 < forward M a b = by (forward M a b) refl in
-    let rest = forward-rest M pos a ((a + 1) % M) b (mod-lt (a + 1) pos) hb (omega arith) in
-    omega arith
-  where
-    by : (d : ℕ) → forward M a b ≡ d → 0 < forward M a b
-    by zero e =
-        let lands : (a + 0) % M ≡ b = ap (λ (d : ℕ). (a + d) % M) (sym e) ∙ forward-lands M pos a b hb in
-        absurd (apart (sym (mod-eq-of-lt ha) ∙ ap (λ (n : ℕ). n % M) (let z : a ≡ a + 0 = omega arith in z) ∙ lands))
-    by (suc d) e = omega arith
 
 module _ (L : ℕ) where
   -- the numbers of ranges are the first one's start, and those of what is left

@@ -4,7 +4,7 @@
 use mathlib.Core.Path.{_≡_, refl, sym, _∙_, ap}
 use mathlib.Core.Bool.{Bool, true, false}
 use mathlib.Core.Logic.{_⊎_, inl, inr, ⊎-elim}
-use Prim.Native.Nat.{ℕ, suc, _+_, _-_, _*_, _/_, _%_, _^_, _≤_, _<_}
+use Prim.Native.Nat.{ℕ, zero, suc, _+_, _-_, _*_, _/_, _%_, _^_, _≤_, _<_}
 use native.Mathlib.Omega.{arith}
 use native.Mathlib.Nat.{mod-eq-of-lt, mod-eq-sub-mod, mod-lt, mod-mod, add-mod, add-mod-mod, mod-add-mod, add-mod-right, add-assoc, add-comm}
 use borrow.Author.Tests.{ltb-true, ltb-false}
@@ -64,3 +64,40 @@ module _ (M : ℕ) (pos : 0 < M) where
       ∙ add-mod-right (b % M) M
       ∙ mod-mod b M
       ∙ mod-eq-of-lt h
+
+  -- no distance from a number to itself
+  pub forward-self : (a : ℕ) → forward M a a ≡ 0
+  forward-self a = ap (forward M a) (let e : a ≡ a + 0 = omega arith in e) ∙ ahead a 0 pos
+
+  -- and a number at no distance is the same
+  pub forward-none : (a b : ℕ) → a < M → b < M → forward M a b ≡ 0 → a ≡ b
+  forward-none a b ha hb e =
+      sym (mod-eq-of-lt ha)
+      ∙ ap (λ (n : ℕ). n % M) (let z : a ≡ a + 0 = omega arith in z)
+      ∙ ap (λ (d : ℕ). (a + d) % M) (sym e)
+      ∙ forward-lands a b hb
+
+  -- forward from a to c is forward from a to b and then from b to c, where b isn't past c
+  pub forward-rest : (a b c : ℕ) → b < M → c < M → forward M a b ≤ forward M a c → forward M b c ≡ forward M a c - forward M a b
+  forward-rest a b c hb hc h =
+      let x = forward M a b in
+      let y = forward M a c in
+      let far : y < M = forward-below a c in
+      sym (ap (λ (n : ℕ). forward M n c) (forward-lands a b hb))
+      ∙ sym (ap (forward M ((a + x) % M)) (forward-lands a c hc))
+      ∙ forward-from (a + x) ((a + y) % M)
+      ∙ forward-to (a + x) (a + y)
+      ∙ ap (forward M (a + x)) (let e : a + y ≡ a + x + (y - x) = omega arith in e)
+      ∙ ahead (a + x) (y - x) (omega arith)
+
+  -- a number's successor is one nearer to any other number
+  pub one-nearer : (a b : ℕ) → a < M → b < M → (a ≡ b → ⊥) → forward M a b ≡ suc (forward M ((a + 1) % M) b)
+  one-nearer a b ha hb apart =
+      let next : forward M a ((a + 1) % M) ≡ 1 = forward-to a (a + 1) ∙ ahead a 1 (omega arith) in
+      let some-way : 0 < forward M a b = by (forward M a b) refl in
+      let rest = forward-rest a ((a + 1) % M) b (mod-lt (a + 1) pos) hb (omega arith) in
+      omega arith
+    where
+      by : (d : ℕ) → forward M a b ≡ d → 0 < forward M a b
+      by zero e = absurd (apart (forward-none a b ha hb e))
+      by (suc d) e = omega arith

@@ -69,6 +69,12 @@ module _ (l : Ledger Unit) (p : ℕ) where
 
 -- ---- accepting a status
 
+-- Bools that are alike are the same
+pub alike-same : (a b : Bool) → alike a b ≡ true → a ≡ b
+alike-same true b t = sym t
+alike-same false true t = t
+alike-same false false t = refl
+
 module _ (l : Ledger Unit) (octets : List ℕ) where
   pub accept-closed : l .closed ≡ true → accept l octets ≡ beside (refused 9) l
   accept-closed a = rw a

@@ -1,20 +1,22 @@
 -- A status's ranges applied to entries, one entry at a time: what is found so far, and what is still to be done, is what
 -- the whole pass comes to.
 -- Assumes nothing.
-use mathlib.Core.Path.{_≡_, refl, _∙_}
+use mathlib.Core.Path.{_≡_, refl, sym, _∙_, ap}
 use mathlib.Core.Bool.{true, false}
 use mathlib.Core.List.{List, [], _∷_, _++_, append-assoc}
 use mathlib.Core.Option.{Option, none, some}
-use Prim.Native.Nat.{ℕ, suc, _+_, _%_, _≤_, _<_}
+use Prim.Native.Nat.{ℕ, suc, _+_, _-_, _%_, _≤_, _<_}
 use native.Mathlib.Numerals.{add-one}
-use native.Mathlib.Nat.{add-zero, zero-add}
+use native.Mathlib.Nat.{add-zero, zero-add, mod-lt}
 use native.Mathlib.Omega.{arith}
 use borrow.Author.Tests.{eq-eqb, ne-eqb}
 use lib.ListN.{length, getD, set, take, drop, take-append-drop, drop-of-length-le}
 use lib.Seq.{take-suc-set, drop-set-lt}
+use Rattle.circle.specs.Circle.{forward, forward-self, forward-none, one-nearer}
 use Rattle.layout.specs.Frames.{Range}
 use Rattle.bearer.specs.Bearer.{numbers}
 use Rattle.bearer.specs.Ledger.{Entry, Passed, noteIn, asLost, bears, afterNumber, markLost}
+use Rattle.bearer.proofs.ImageLaws.{positive}
 use Rattle.ledger.specs.declared.Entry.{Entry as Slot}
 use Rattle.ledger.specs.View.{entryIn, entriesIn}
 use Rattle.ledger.proofs.Entries.{Stands, blank, slot, entry-set}
@@ -91,3 +93,26 @@ all-found L xs i c = rw (nothing-left L (drop i xs), take-append-drop i xs, add-
 -- a range is left, and no entry
 pub not-found : (L : ℕ) (xs : List (Entry Unit)) (i c : ℕ) (r : Range) (rs : List Range) → length xs ≤ i → marking L xs i c (r ∷ rs) ≡ none
 not-found L xs i c r rs h = rw (drop-of-length-le xs h)
+
+-- ---- the way to a range's end
+
+-- a range is walked as far as a number; so much further is its end, both on the bearer's circle
+pub record OnWay (L number end further : ℕ) : Type 0 where
+  pub here : number < numbers L
+  pub there : end < numbers L
+  pub way : further ≡ forward (numbers L) number end
+
+module _ {L number end further : ℕ} (w : OnWay L number end further) where
+  -- no further: it is the end
+  pub last-is : further ≡ 0 → number ≡ end
+  last-is over = forward-none (numbers L) (positive L) number end (w .here) (w .there) (sym (w .way) ∙ over)
+
+  -- some way further: it isn't
+  pub not-last : (further ≡ 0 → ⊥) → number ≡ end → ⊥
+  not-last some-way e = some-way (w .way ∙ ap (forward (numbers L) number) (sym e) ∙ forward-self (numbers L) (positive L) number)
+
+  -- the next number is one nearer
+  pub one-on : (further ≡ 0 → ⊥) → OnWay L ((number + 1) % numbers L) end (further - 1)
+  one-on some-way =
+      let nearer = one-nearer (numbers L) (positive L) number end (w .here) (w .there) (not-last some-way) in
+      record { here = mod-lt (number + 1) (positive L); there = w .there; way = omega (arith, w .way) }

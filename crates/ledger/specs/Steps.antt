@@ -10,8 +10,7 @@ use Rattle.layout.specs.Frames.{Status}
 use Rattle.bearer.specs.Bearer.{pdcps}
 use Rattle.bearer.specs.Ledger as machine
 use Rattle.reader.specs.declared.Head.{Head}
-use Rattle.reader.specs.Answers.{cursorOf}
-use Rattle.reader.proofs.Walk.{ahead}
+use Rattle.reader.specs.Answers.{cursorOf, ahead}
 use Rattle.ledger.specs.declared.Marked.{Marked}
 use Rattle.ledger.specs.declared.Kept.{Kept}
 use Rattle.ledger.specs.View.{entriesIn}

@@ -6,12 +6,12 @@ ghost use mathlib.Core.List.{_++_};
 ghost use Prim.Native.Nat.{_+_, _/_, _%_, _≤_, _<_, min};
 ghost use lib.Dec.{ltb, eqb};
 ghost use lib.ListN.{take as «takeOf», drop};
+ghost use Rattle.circle.specs.Circle.{forward};
 ghost use Rattle.layout.specs.Basics.{_and_, _or_, refused, alike};
 ghost use Rattle.bearer.specs.Bearer.{mostEntries, isLength, isLong, numbers as «numbersOf», pdcps as «pdcpsOf»};
 ghost use Rattle.bearer.specs.Ledger.{openLedger, send as «sendOf», accept as «acceptOf», takeOldest};
 ghost use Rattle.bearer.specs.Ledger.{waits as «waitsOf», asLost, markLost, waitsFor, acceptStatus, acceptMarked, takeAt};
-ghost use Rattle.reader.specs.Answers.{cursorOf};
-ghost use Rattle.reader.proofs.Walk.{ahead, Held};
+ghost use Rattle.reader.specs.Answers.{cursorOf, ahead, Held};
 ghost use Rattle.ledger.specs.View.{lengthIn, entryIn, entriesIn, ledgerIn, openedAs, sentAs, acceptedAs, takenAs, beside, freshIn, opens};
 ghost use Rattle.ledger.specs.Steps.{forwardIn, statusIn, markedAs, keptOf, freeWhile};
 use reader::Cursor;
@@ -156,6 +156,16 @@ fn next_number(number: u32, bits: u32) -> u32
     std::num::wrapping_add_u32(number, 1) % numbers(bits)
 }
 
+// How far it is forward from one X2-U number to another.
+fn ahead_to(number: u32, to: u32, bits: u32) -> u32
+    ensures { λ r. ⌜ r ≡ forward («numbersOf» bits) number to ⌝ }
+{
+    if bits == 18 {
+        return circle::forward(number, to, 24);
+    }
+    circle::forward(number, to, 16)
+}
+
 // The PDCP order: past the last sent, and less than half the PDCP numbers past the highest.
 fn in_order(bits: u32, highest: u32, sent: u32, pdcp: u32) -> bool
     requires { ⌜ bits < 32 ⌝ }
@@ -225,10 +235,11 @@ fn as_lost(e: Entry) -> Entry
     }
 }
 
-// The numbers of the ranges, one after another, become lost where they are found among the waiting entries. One place goes
-// through the entries for all the ranges, so no range is walked further than the entries reach.
+// The numbers of the ranges, one after another, become lost where they are found among the waiting entries. A range ends
+// where its distance is used up. One place goes through the entries for all the ranges, so no range is walked further than
+// the entries reach.
 fn mark(es: [Entry; MOST_ENTRIES], n: usize, bits: u32, frame: &[u8], first: Cursor) -> Marked
-    requires { ⌜ (n ≤ mostEntries) × Held (now frame) first ⌝ }
+    requires { ⌜ (n ≤ mostEntries) × Held (now frame) first × (first .long ≡ isLong bits) ⌝ }
     ensures { λ r. ⌜ markedAs r n ≡ markLost bits (entriesIn es n) (ahead (now (frame .entry)) first) ⌝ }
 {
     let mut m = Marked {
@@ -245,6 +256,7 @@ fn mark(es: [Entry; MOST_ENTRIES], n: usize, bits: u32, frame: &[u8], first: Cur
         };
         at = rest;
         let mut number = start;
+        let mut further = ahead_to(start, end, bits);
         loop {
             if n <= i {
                 break 'ranges;
@@ -254,9 +266,10 @@ fn mark(es: [Entry; MOST_ENTRIES], n: usize, bits: u32, frame: &[u8], first: Cur
                 m.entries[i] = as_lost(e);
                 m.lost += 1;
                 i += 1;
-                if number == end {
+                if further == 0 {
                     break;
                 }
+                further -= 1;
                 number = next_number(number, bits);
             } else {
                 i += 1;
@@ -468,7 +481,7 @@ fn own_form(long: bool, bits: u32) -> bool
 
 // The ranges and the highest of a status of the bearer's form: 33, 34, or the counts.
 fn apply(l: Ledger, bits: u32, frame: &[u8], head: Head) -> Accepting
-    requires { ⌜ Held (now frame) (cursorOf head) ⌝ }
+    requires { ⌜ Held (now frame) (cursorOf head) × (head .long ≡ isLong bits) ⌝ }
     ensures { λ r. ⌜ beside (acceptedAs (r .answer)) (ledgerIn (r .ledger))
         ≡ acceptMarked (ledgerIn l) (statusIn (now (frame .entry)) head) (markLost bits (ledgerIn l .entries) (ahead (now (frame .entry)) (cursorOf head))) ⌝ }
 {

@@ -4,15 +4,15 @@
 use mathlib.Core.Bool.{Bool, true, false}
 use mathlib.Core.List.{List, [], _∷_}
 use mathlib.Core.Path.{_≡_, refl, sym, _∙_, ap}
-use Prim.Native.Nat.{ℕ, zero, suc, _+_, _-_, _*_, _%_, _≤_}
+use Prim.Native.Nat.{ℕ, zero, suc, _+_, _-_, _*_, _%_, _≤_, _<_}
 use native.Mathlib.Omega.{arith}
 use borrow.Author.Tests.{le-ltb}
 use lib.Dec.{ltb, eqb·suc-zero}
 use lib.ListN.{length, getD}
 use Rattle.layout.specs.Basics.{if_then_else_}
 use Rattle.layout.specs.Octets.{field}
-use Rattle.layout.specs.Frames.{Range, Status, status-of, width, listAt, countAt, rangesAt, readFrame, listedIn, countIn}
-use Rattle.layout.proofs.Octets.{length-rangesAt}
+use Rattle.layout.specs.Frames.{Range, Status, status-of, width, modulus, listAt, countAt, rangesAt, readFrame, listedIn, countIn}
+use Rattle.layout.proofs.Octets.{AreOctets, field-below, length-rangesAt}
 use Rattle.layout.proofs.Padding.{GoodLength}
 use Rattle.layout.proofs.Frame.{Frame as Framed, status-frame, readingOf as meant}
 use Rattle.layout.proofs.Read.{Read, as-data, as-status, frame-read}
@@ -20,16 +20,8 @@ use Rattle.reader.specs.declared.Head.{Head}
 use Rattle.reader.specs.declared.Frame.the-variants as frame
 use Rattle.reader.specs.declared.Cursor.{Cursor}
 use Rattle.reader.specs.declared.Step.the-variants as step
-use Rattle.reader.specs.Answers.{readingOf, cursorOf, nextIn}
+use Rattle.reader.specs.Answers.{readingOf, cursorOf, nextIn, ahead, Held}
 use Rattle.reader.proofs.Unique.{same-status}
-
--- the ranges from a cursor on
-abbrev pub ahead : List ℕ → Cursor → List Range
-ahead s c = rangesAt s (width (c .long)) (c .place) (c .left)
-
--- the frame holds them all
-abbrev pub Held : List ℕ → Cursor → Type 0
-Held s c = c .place + c .left * (2 * width (c .long)) ≤ length s
 
 -- a walk from a cursor on: each range that is answered, and that none is left behind the last
 pub data Walk (s : List ℕ) : Cursor → List Range → Type 0 where
@@ -76,6 +68,7 @@ walks s c h = walk-at s (c .long) (c .place) (c .left) h
 pub record Went (s : List ℕ) (c : Cursor) (a b : ℕ) (d : Cursor) : Type 0 where
   pub split : ahead s c ≡ record { start = a; end = b } ∷ ahead s d
   pub fewer : d .left + 1 ≡ c .left
+  pub form : d .long ≡ c .long
   pub held : Held s c → Held s d
 
 by-test : (t : Bool) (a b m n : ℕ) (c d : Cursor) → (if t then step.End else step.Range a b c) ≡ step.Range m n d → (a ≡ m) × (b ≡ n) × (c ≡ d)
@@ -88,11 +81,27 @@ went-at s long place zero a b d e = apart (cc)
 went-at s long place (suc n) a b d e =
     let less : suc n - 1 ≡ n = omega arith in
     let p = by-test (ltb (length s) (place + 2 * width long)) _ _ a b _ d (rw (eqb·suc-zero n, less) at e) in
-    rw (← p .0, ← p .1, ← p .2) (record { split = refl; fewer = omega arith; held = held-behind long place n (length s) })
+    rw (← p .0, ← p .1, ← p .2) (record { split = refl; fewer = omega arith; form = refl; held = held-behind long place n (length s) })
 
 -- a caller whose cursor is c learns this from the answer
 pub went : (s : List ℕ) (c : Cursor) {a b : ℕ} {d : Cursor} → nextIn s c ≡ step.Range a b d → Went s c a b d
 went s c {a} {b} {d} e = went-at s (c .long) (c .place) (c .left) a b d e
+
+-- a field of a form's width is on its circle
+on-circle : (s : List ℕ) (i : ℕ) (long : Bool) → AreOctets s → field s i (width long) < modulus long
+on-circle s i true o = field-below s i 3 o
+on-circle s i false o = field-below s i 2 o
+
+within-at : (s : List ℕ) (long : Bool) (place left a b : ℕ) (d : Cursor) → AreOctets s → nextIn s (record { long = long; place = place; left = left }) ≡ step.Range a b d
+    → (a < modulus long) × (b < modulus long)
+within-at s long place zero a b d o e = apart (cc)
+within-at s long place (suc n) a b d o e =
+    let p = by-test (ltb (length s) (place + 2 * width long)) _ _ a b _ d (rw (eqb·suc-zero n) at e) in
+    rw (← p .0, ← p .1) (on-circle s place long o, on-circle s (place + width long) long o)
+
+-- the numbers of a range that was answered are on the circle of the cursor's form
+pub within : (s : List ℕ) (c : Cursor) {a b : ℕ} {d : Cursor} → AreOctets s → nextIn s c ≡ step.Range a b d → (a < modulus (c .long)) × (b < modulus (c .long))
+within s c {a} {b} {d} o e = within-at s (c .long) (c .place) (c .left) a b d o e
 
 end-at : (s : List ℕ) (long : Bool) (place left : ℕ) → place + left * (2 * width long) ≤ length s
     → nextIn s (record { long = long; place = place; left = left }) ≡ step.End → left ≡ 0

@@ -2,11 +2,12 @@
 -- Assumes nothing.
 use mathlib.Core.Bool.{Bool, true, false}
 use mathlib.Core.List.{List}
-use Prim.Native.Nat.{ℕ, _+_, _-_, _*_}
+use Prim.Native.Nat.{ℕ, _+_, _-_, _*_, _≤_}
 use lib.Dec.{ltb, eqb}
 use lib.ListN.{length}
 use Rattle.layout.specs.Basics.{if_then_else_, _or_}
 use Rattle.layout.specs.Octets.{field}
+use Rattle.layout.specs.Frames as frames
 use Rattle.layout.specs.Frames.{Reading, data-of, status-of, refuse, width, listAt, rangesAt}
 use Rattle.reader.specs.declared.Head.{Head}
 use Rattle.reader.specs.declared.Frame.{Frame}
@@ -32,6 +33,14 @@ readingOf s (Refused n) = refuse n
 -- the cursor before the first range of a status
 abbrev pub cursorOf : Head → Cursor
 cursorOf h = record { long = h .long; place = listAt (width (h .long)); left = h .count }
+
+-- the ranges from a cursor on
+abbrev pub ahead : List ℕ → Cursor → List frames.Range
+ahead s c = rangesAt s (width (c .long)) (c .place) (c .left)
+
+-- the frame holds them all
+abbrev pub Held : List ℕ → Cursor → Type 0
+Held s c = c .place + c .left * (2 * width (c .long)) ≤ length s
 
 -- the range at a cursor and the cursor behind it; none where none is left or the frame has ended
 abbrev pub nextIn : List ℕ → Cursor → Step

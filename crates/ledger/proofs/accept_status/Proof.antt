@@ -5,11 +5,10 @@ use borrow.Author.Tests.{le-leb, lt-leb, not-true, not-false}
 use Rattle.layout.specs.Basics.{alike}
 use Rattle.bearer.specs.Bearer.{isLong, pdcps}
 use Rattle.bearer.specs.Ledger.{acceptMarked, markLost}
-use Rattle.reader.specs.Answers.{cursorOf}
-use Rattle.reader.proofs.Walk.{ahead}
+use Rattle.reader.specs.Answers.{cursorOf, ahead}
 use Rattle.ledger.specs.View.{lengthIn, ledgerIn}
 use Rattle.ledger.specs.Steps.{statusIn}
-use Rattle.ledger.proofs.Calls.{accept-form, accept-bits, accept-ranges}
+use Rattle.ledger.proofs.Calls.{alike-same, accept-form, accept-bits, accept-ranges}
 use borrow.Author.Needs.{needs}
 use Rattle.ledger.proofs.accept_status.Statement.{statement}
 use Rattle.ledger.proofs.accept_status.Tie as tie
@@ -51,7 +50,9 @@ returns-2 c =
     c .not-accepted2 .ensures ∙ sym (accept-bits (ledgerIn (a .l)) (statusIn (a .frame .now) (a .head)) form-is b)
 
 apply-requires : tie.Need-apply-requires
-apply-requires c κs = search needs
+apply-requires c κs =
+    let k = c .before .before in
+    (k .before .before .before .before .before .pre, alike-same _ _ (sym (k .before .before .own-form .ensures) ∙ not-false _ (k .before .if1 .left)))
 
 returns-3 : tie.Need-returns-3
 returns-3 c =

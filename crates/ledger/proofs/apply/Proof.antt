@@ -5,8 +5,7 @@ use native.Mathlib.Omega.{arith}
 use borrow.Author.Tests.{not-true, not-false}
 use Rattle.bearer.specs.Ledger.{markLost}
 use Rattle.reader.specs.declared.Cursor.{Cursor}
-use Rattle.reader.specs.Answers.{cursorOf}
-use Rattle.reader.proofs.Walk.{ahead}
+use Rattle.reader.specs.Answers.{cursorOf, ahead}
 use Rattle.ledger.specs.View.{entriesIn, ledgerIn}
 use Rattle.ledger.specs.Steps.{statusIn, markedAs}
 use Rattle.ledger.proofs.Calls.{accept-missing, accept-highest, accept-done}
@@ -32,7 +31,9 @@ first-range-requires : tie.Need-first-range-requires
 first-range-requires c κs = search needs
 
 mark-requires : tie.Need-mark-requires
-mark-requires c κs = (omega (arith, c .before .before .held .ensures), rw (c .first-range .ensures) (c .before .before .before .before .pre))
+mark-requires c κs =
+    let pre = c .before .before .before .before .pre in
+    (omega (arith, c .before .before .held .ensures), rw (c .first-range .ensures) (pre .0), rw (c .first-range .ensures) (pre .1))
 
 not-accepted-requires : tie.Need-not-accepted-requires
 not-accepted-requires c κs = search needs

@@ -5,7 +5,8 @@ use mathlib.Core.List.{[], _∷_, _++_}
 use mathlib.Core.Path.{refl, sym, _∙_}
 use lib.ListN.{set}
 use borrow.Author.Needs.{needs}
-use Rattle.reader.proofs.Walk.{ahead, Held, Went, went, ended}
+use Rattle.reader.specs.Answers.{ahead, Held}
+use Rattle.reader.proofs.Walk.{Went, went, ended}
 use Rattle.listing.specs.Listing.{comma, rangeText}
 use Rattle.listing.specs.Texts.{moreText}
 use Rattle.writer.proofs.Laying.{laid-none, laid-octet}

@@ -2,8 +2,8 @@
 use mathlib.Core.List.{[], _++_}
 use mathlib.Core.Path.{_≡_, sym, _∙_, ap}
 use borrow.Author.Needs.{needs}
-use Rattle.reader.specs.Answers.{cursorOf}
-use Rattle.reader.proofs.Walk.{ahead, Went, went, ended}
+use Rattle.reader.specs.Answers.{cursorOf, ahead}
+use Rattle.reader.proofs.Walk.{Went, went, ended}
 use Rattle.listing.specs.Listing.{rangeText, rangesText}
 use Rattle.listing.specs.Texts.{moreText}
 use Rattle.writer.proofs.Laying.{laid-then}

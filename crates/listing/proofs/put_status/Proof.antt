@@ -9,8 +9,7 @@ use Rattle.layout.specs.Basics.{bit}
 use Rattle.layout.specs.Frames.{statusType}
 use Rattle.reader.specs.declared.Head.{Head}
 use Rattle.reader.specs.declared.Frame.the-variants.{Status}
-use Rattle.reader.specs.Answers.{readingOf, cursorOf}
-use Rattle.reader.proofs.Walk.{ahead}
+use Rattle.reader.specs.Answers.{readingOf, cursorOf, ahead}
 use Rattle.listing.specs.Listing.{lineFeed, rangesText, answerTo}
 use Rattle.writer.specs.Laid.{Laid, Room}
 use Rattle.listing.specs.Texts.{tabbed}

@@ -1,0 +1,20 @@
+-- `ahead_to`: 24 bits are the long form's circle, 16 the short one's. Assumes nothing.
+use borrow.Author.Tests.{eq-eqb, ne-eqb}
+use borrow.Author.Needs.{needs}
+use Rattle.ledger.proofs.ahead_to.Statement.{statement}
+use Rattle.ledger.proofs.ahead_to.Tie as tie
+
+forward-requires : tie.Need-forward-requires
+forward-requires c κs = search needs
+
+returns : tie.Need-returns
+returns c = rw (eq-eqb _ _ (c .before .if1 .taken)) (c .forward .ensures)
+
+forward-requires-2 : tie.Need-forward-requires-2
+forward-requires-2 c κs = search needs
+
+returns-2 : tie.Need-returns-2
+returns-2 c = rw (ne-eqb _ _ (c .before .if1 .left)) (c .forward2 .ensures)
+
+pub ahead-to-spec : {M : Type 1} → statement M
+ahead-to-spec = tie.close (tie.spec forward-requires returns forward-requires-2 returns-2)
