@@ -1,41 +1,40 @@
 -- Copies of packets arrive at the secondary, and gaps expire: both ends stay joined, and none of 13, 14 and 15 is ever given.
 -- Assumes nothing.
 use mathlib.Core.Path.{_≡_, refl, sym, _∙_, ap, subst}
-use mathlib.Core.Bool.{Bool, true, false, not}
-use mathlib.Core.List.{List, [], _∷_, _++_, map}
+use mathlib.Core.Bool.{true, false, not}
+use mathlib.Core.List.{List, [], _∷_, map}
 use mathlib.Core.Logic.{_⊎_, inl, inr, ⊎-elim}
-use Prim.Native.Nat.{ℕ, zero, suc, _+_, _-_, _≤_, _<_, max}
+use Prim.Native.Nat.{ℕ, zero, suc, _+_, _-_, _≤_, _<_}
 use native.Mathlib.Omega.{arith}
 use borrow.Author.Tests.{lt-leb, le-ltb, ne-eqb, eqb-true, eqb-false}
-use lib.Dec.{ltb, leb, eqb}
-use lib.ListN.{length, getD, take, drop, length-map}
-use Rattle.layout.specs.Basics.{if_then_else_, Outcome, done, refused}
-use Rattle.bearer.specs.Bearer.{isLength, numbers, half, pdcps, window, mostRuns, mostRecords, After}
+use lib.Dec.{eqb}
+use lib.ListN.{length, getD, drop, length-map}
+use Rattle.bearer.specs.Bearer.{isLength, half, pdcps, window, mostRuns, mostRecords, After}
 use Rattle.bearer.specs.Losses.{Gap}
 use Rattle.bearer.specs.Keeper as K
 use Rattle.bearer.specs.Rule.{Fates, isIn, isOpen, below, openBelow, declare, receive, arrival, expiry, highest}
-use Rattle.bearer.specs.Demand3.{World, numberOf, In, Rising, isDone, inFlight, atSecondary}
+use Rattle.bearer.specs.Demand3.{World, numberOf, In, inFlight, atSecondary}
 use Rattle.bearer.specs.Meaning.{Held, indexes, packetsFrom, packetsOf, Each, Maximal, Lowest}
-use Rattle.bearer.proofs.Index.{Indexed, image, imageAfter, froms, firstBack, floorI, placeI, hasI, runsAfterI, arrivedI, arriveI, topI, expireI}
-use Rattle.bearer.proofs.Lists.{tested, refuted, contrary, in-head, in-tail, in-cons, in-left, in-right, in-append, in-one, in-each, each-in, inserted, map-inserted, length-inserted, each-inserted, in-inserted, inserted-in, rising-inserted}
+use Rattle.bearer.proofs.Index.{Indexed, image, froms, firstBack, floorI, placeI, runsAfterI, arrivedI, arriveI, topI, expireI}
+use Rattle.bearer.proofs.Lists.{tested, contrary, in-head, in-tail, in-cons, in-left, in-right, in-append, in-one, in-each, each-in, inserted, map-inserted, length-inserted, each-inserted, in-inserted, inserted-in, rising-inserted}
 use Rattle.bearer.proofs.ImageLists.{otherwise, chosen, each-so}
 use Rattle.bearer.proofs.Members.{order, in-none, not-in}
-use Rattle.bearer.proofs.Open.{open-is, open-unreceived, received-closed, lost-closed, closed, in-only, packets-in}
+use Rattle.bearer.proofs.Open.{open-is, received-closed, lost-closed, closed, in-only, packets-in}
 use Rattle.bearer.proofs.Runs.{maximal-first, maximal-tail, each-with-runs, maximal-with-runs}
-use Rattle.bearer.proofs.Follows.{Follows, follows-has, recorded}
+use Rattle.bearer.proofs.Follows.{follows-has, recorded}
 use Rattle.bearer.proofs.GivenUp.{lostGaps, lost-gaps-from, lost-gaps-below, lost-gaps-maximal}
 use Rattle.bearer.proofs.FollowsArrival.{arrival-closed, follows-arrive}
 use Rattle.bearer.proofs.FollowsExpiry.{top, follows-nothing, follows-expire}
 use Rattle.bearer.proofs.Image.{late, image-arrive, image-expire}
 use Rattle.bearer.proofs.Marks.{waitingOf}
 use Rattle.bearer.proofs.Pdcps.{pdcpOf}
-use Rattle.bearer.proofs.Lengths.{Roomy, roomy}
-use Rattle.bearer.proofs.Joint.{Second, First, Joint}
+use Rattle.bearer.proofs.Lengths.{roomy}
+use Rattle.bearer.proofs.Joint.{Second, Joint}
 use Rattle.bearer.proofs.FollowsMeans.{follows-reach}
 use Rattle.bearer.proofs.Flight.{flight-cut, flight-told}
 use Rattle.bearer.proofs.Delivery.{base-sent}
 use Rattle.bearer.proofs.Calls.{joint-kept}
-use Rattle.bearer.proofs.Waiting.{runs-count, waits-unlost, waits-untold, at-most, sent-most, sent-near, cut-there-first}
+use Rattle.bearer.proofs.Waiting.{runs-count, waits-unlost, waits-untold, at-most, sent-most, sent-near}
 use Rattle.bearer.proofs.Growth.{Onward, told-same, to-tell-more, first-grows, flight-onward}
 
 -- ---- the listed runs stay within their store

@@ -3,23 +3,22 @@
 use mathlib.Core.Path.{_≡_, refl, sym, _∙_, ap, subst}
 use mathlib.Core.Bool.{Bool, true, false}
 use mathlib.Core.List.{List, [], _∷_, _++_, append-nil}
-use mathlib.Core.Logic.{_⊎_, inl, inr, ⊎-elim}
-use Prim.Native.Nat.{ℕ, zero, suc, _+_, _-_, _≤_, _<_}
+use mathlib.Core.Logic.{_⊎_, ⊎-elim}
+use Prim.Native.Nat.{ℕ, suc, _+_, _-_, _≤_, _<_}
 use native.Mathlib.Omega.{arith}
 use lib.ListN.{length, take, length-append, List·getD-append}
-use Rattle.layout.specs.Basics.{if_then_else_, Outcome, refused}
-use Rattle.bearer.specs.Bearer.{isLength, After}
+use Rattle.layout.specs.Basics.{if_then_else_, refused}
+use Rattle.bearer.specs.Bearer.{isLength}
 use Rattle.bearer.specs.Keeper as K
 use Rattle.bearer.specs.Ledger as G
 use Rattle.bearer.specs.Rule.{Fates, isIn}
 use Rattle.bearer.specs.Demand3.{World, packets, In, isDone, without, afterSend, atSecondary, atMaster, afterTake}
 use Rattle.bearer.specs.Meaning.{Held, Each}
-use Rattle.bearer.proofs.Index.{Indexed}
 use Rattle.bearer.proofs.Lists.{in-head, in-tail, in-cons, in-left, in-right, in-append, in-take}
 use Rattle.bearer.proofs.Members.{order, in-none, not-in}
 use Rattle.bearer.proofs.Marks.{waitingOf}
 use Rattle.bearer.proofs.Pdcps.{pdcpOf}
-use Rattle.bearer.proofs.Master.{Master, Sends, send-cases, master-sends, waiting-append}
+use Rattle.bearer.proofs.Master.{Sends, send-cases, master-sends, waiting-append}
 use Rattle.bearer.proofs.Unchanged.{accept-keeps, arrive-keeps}
 use Rattle.bearer.proofs.Takes.{Left, take-cases, master-left, waiting-left}
 use Rattle.bearer.proofs.Flight.{Flight, flight-grows}

@@ -2,22 +2,21 @@
 -- Assumes nothing.
 use mathlib.Core.Path.{_≡_, refl, sym, _∙_, ap, subst}
 use mathlib.Core.Bool.{Bool, true, false}
-use mathlib.Core.List.{List, [], _∷_, _++_, map}
+use mathlib.Core.List.{List, [], _∷_}
 use mathlib.Core.Logic.{_⊎_, inl, inr, ⊎-elim}
-use Prim.Native.Nat.{ℕ, zero, suc, _+_, _-_, _≤_, _<_, max}
+use Prim.Native.Nat.{ℕ, zero, suc, _-_, _≤_, _<_}
 use native.Mathlib.Omega.{arith}
 use borrow.Author.Tests.{eq-eqb, eqb-true}
 use lib.Dec.{eqb}
-use lib.ListN.{length, getD, set, length-map, List·getD-map}
+use lib.ListN.{length, getD, set}
 use lib.Seq.{map-set-same}
 use Rattle.layout.specs.Basics.{if_then_else_, Outcome, done, refused}
-use Rattle.bearer.specs.Bearer.{isLength, numbers, half, pdcps, After}
+use Rattle.bearer.specs.Bearer.{isLength, numbers, half, pdcps}
 use Rattle.bearer.specs.Keeper as K
-use Rattle.bearer.specs.Rule.{Fates, isIn}
 use Rattle.bearer.specs.Demand3.{World, numberOf, In, Rising, isDone, latest, afterConfirm}
 use Rattle.bearer.specs.Meaning.{Held, indexes, Each}
-use Rattle.bearer.proofs.Index.{Indexed, image, noHeld, deliveredI, confirmedI}
-use Rattle.bearer.proofs.Lists.{tested, contrary, in-head, in-tail, in-cons, each-set, rising-head, rising-tail}
+use Rattle.bearer.proofs.Index.{image, noHeld, deliveredI, confirmedI}
+use Rattle.bearer.proofs.Lists.{tested, in-head, in-tail, in-cons, each-set, rising-head, rising-tail}
 use Rattle.bearer.proofs.ImageLists.{each-so, each-at}
 use Rattle.bearer.proofs.Members.{order, in-none}
 use Rattle.bearer.proofs.FollowsStatus.{follows-confirm}
@@ -25,9 +24,9 @@ use Rattle.bearer.proofs.ImageLaws.{positive, same-packet}
 use Rattle.bearer.proofs.ImageStatus.{Confirms, image-confirm}
 use Rattle.bearer.proofs.Unchanged.{confirm-keeps}
 use Rattle.bearer.proofs.Pdcps.{pdcpOf, few}
-use Rattle.bearer.proofs.Lengths.{Roomy, roomy}
+use Rattle.bearer.proofs.Lengths.{roomy}
 use Rattle.bearer.proofs.Flight.{flight-cut}
-use Rattle.bearer.proofs.Joint.{Second, First, Joint, secondMark, masterMark}
+use Rattle.bearer.proofs.Joint.{Second, Joint}
 use Rattle.bearer.proofs.FollowsMeans.{follows-reach}
 
 -- ---- the packet that a number names

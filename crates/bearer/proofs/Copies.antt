@@ -1,15 +1,15 @@
 -- What copies are answered while both ends are joined: an open packet is taken, with the count that the rule declares lost; any other is late
 -- or has a record. None of 13, 14 and 15 is ever given.
 -- Assumes nothing.
-use mathlib.Core.Path.{_≡_, refl, sym, _∙_, ap, subst}
+use mathlib.Core.Path.{_≡_, sym, _∙_, ap, subst}
 use mathlib.Core.Bool.{Bool, true, false}
 use mathlib.Core.Logic.{_⊎_, inl, inr, ⊎-elim}
 use Prim.Native.Nat.{ℕ, _+_, _-_, _≤_, _<_}
 use native.Mathlib.Omega.{arith}
 use borrow.Author.Tests.{lt-leb, le-ltb}
 use lib.ListN.{length, getD}
-use Rattle.layout.specs.Basics.{Outcome, done, refused}
-use Rattle.bearer.specs.Bearer.{isLength, half, pdcps, mostRuns, mostRecords, After}
+use Rattle.layout.specs.Basics.{Outcome, done}
+use Rattle.bearer.specs.Bearer.{isLength, half, mostRuns, mostRecords, After}
 use Rattle.bearer.specs.Losses.{sizeOf}
 use Rattle.bearer.specs.Keeper as K
 use Rattle.bearer.specs.Rule.{isIn, isOpen, arrival}
@@ -23,7 +23,7 @@ use Rattle.bearer.proofs.Follows.{follows-has}
 use Rattle.bearer.proofs.FollowsArrival.{arrival-count}
 use Rattle.bearer.proofs.FollowsMeans.{follows-reach}
 use Rattle.bearer.proofs.Image.{late, image-arrive}
-use Rattle.bearer.proofs.Lengths.{Roomy, roomy}
+use Rattle.bearer.proofs.Lengths.{roomy}
 use Rattle.bearer.proofs.Joint.{Joint}
 use Rattle.bearer.proofs.Delivery.{base-sent}
 use Rattle.bearer.proofs.Arriving.{base-near, floor-near, runs-near, records-near, was-open}

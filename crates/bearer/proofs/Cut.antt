@@ -1,8 +1,8 @@
 -- What a status lets go and leaves out, by packets: where the new cut lies, and what lies on either side of it.
 -- Assumes nothing.
-use mathlib.Core.Path.{_≡_, refl, sym, _∙_, ap}
+use mathlib.Core.Path.{_≡_, sym, _∙_, ap}
 use mathlib.Core.Bool.{Bool, true, false}
-use mathlib.Core.List.{List, [], _∷_, _++_, map}
+use mathlib.Core.List.{List, [], _∷_, _++_}
 use mathlib.Core.Logic.{_⊎_, inl, inr, ⊎-elim}
 use Prim.Native.Nat.{ℕ, zero, suc, _+_, _-_, _≤_, _<_}
 use native.Mathlib.Omega.{arith}
@@ -12,20 +12,18 @@ use lib.ListN.{length, getD, take, drop, length-append, length-drop, length-map,
 use lib.Seq.{take-add, drop-drop, getD-take, length-take-le, take-append-seam, drop-append-seam}
 use Rattle.layout.specs.Basics.{if_then_else_, _and_}
 use Rattle.layout.specs.Frames.{mostRanges}
-use Rattle.bearer.specs.Bearer.{half, pdcps}
 use Rattle.bearer.specs.Losses.{Gap}
 use Rattle.bearer.specs.Keeper.{Keeper, runWith}
-use Rattle.bearer.specs.Rule.{Fates, isIn, isOpen}
+use Rattle.bearer.specs.Rule.{Fates, isIn}
 use Rattle.bearer.specs.Demand3.{In, Rising}
 use Rattle.bearer.specs.Meaning.{Held, indexes, packetsFrom, packetsOf, Each, Maximal}
-use Rattle.bearer.proofs.Index.{Indexed, noHeld, mayGoI, letGoI, highestI, reportedI}
-use Rattle.bearer.proofs.Lists.{tested, contrary, and-true, in-head, in-tail, in-cons, in-left, in-right, in-append, in-take, in-drop, in-split, each-in, rising-head, rising-tail, rising-take, rising-drop, each-run, run-ends}
+use Rattle.bearer.proofs.Index.{Indexed, noHeld, mayGoI, letGoI}
+use Rattle.bearer.proofs.Lists.{contrary, and-true, in-head, in-cons, in-left, in-right, in-append, in-take, in-drop, in-split, each-in, rising-head, rising-tail, each-run, run-ends}
 use Rattle.bearer.proofs.ImageLists.{each-so, each-take, each-at, map-take}
 use Rattle.bearer.proofs.Members.{order, in-none, each-apply}
 use Rattle.bearer.proofs.Gaps.{packets-of-append}
 use Rattle.bearer.proofs.Open.{packets-in, in-packets, closed}
-use Rattle.bearer.proofs.Runs.{maximal-first, maximal-tail, maximal-drop}
-use Rattle.bearer.proofs.Follows.{Follows}
+use Rattle.bearer.proofs.Runs.{maximal-first, maximal-drop}
 use Rattle.bearer.proofs.Pdcps.{pdcpOf}
 use Rattle.bearer.proofs.Joint.{Second}
 use Rattle.bearer.proofs.Delivery.{parts-apart}

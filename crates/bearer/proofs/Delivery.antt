@@ -1,28 +1,27 @@
 -- A status frame reaches the master: it accepts it, and both ends stay joined.
 -- Assumes nothing.
 use mathlib.Core.Path.{_≡_, refl, sym, _∙_, ap, subst}
-use mathlib.Core.Bool.{Bool, true, false, not}
-use mathlib.Core.List.{List, [], _∷_, _++_, map, append-assoc}
-use mathlib.Core.Logic.{_⊎_, inl, inr, ⊎-elim}
+use mathlib.Core.Bool.{Bool, true, false}
+use mathlib.Core.List.{List, [], _∷_, _++_, append-assoc}
+use mathlib.Core.Logic.{_⊎_, ⊎-elim}
 use Prim.Native.Nat.{ℕ, zero, suc, _+_, _-_, _≤_, _<_}
 use native.Mathlib.Omega.{arith}
 use lib.ListN.{length, take, drop, length-append, length-drop, length-map}
 use lib.Seq.{take-add, drop-drop, length-take-le}
 use Rattle.layout.specs.Basics.{_and_}
-use Rattle.layout.specs.Frames.{Reading, status-of, readFrame}
-use Rattle.bearer.specs.Bearer.{isLength, half, pdcps, After}
+use Rattle.layout.specs.Frames.{Reading, readFrame}
+use Rattle.bearer.specs.Bearer.{isLength}
 use Rattle.bearer.specs.Keeper.{Keeper}
-use Rattle.bearer.specs.Ledger.{Ledger, accept}
+use Rattle.bearer.specs.Ledger.{accept}
 use Rattle.bearer.specs.Rule.{Fates, isIn, isOpen}
-use Rattle.bearer.specs.Demand3.{World, Built, numberOf, packets, In, Rising, isDone, inFlight, inFrames, inRanges, rangesRead, lastConfirmed, confirmedThen, without, atMaster, afterDelivery, Accepts}
+use Rattle.bearer.specs.Demand3.{World, Built, numberOf, packets, In, Rising, inFlight, inFrames, inRanges, rangesRead, lastConfirmed, without, atMaster, afterDelivery, Accepts}
 use Rattle.bearer.specs.Meaning.{packetsOf}
 use Rattle.bearer.proofs.Index.{Indexed}
 use Rattle.bearer.proofs.Lists.{contrary, in-left, in-right, in-append, in-cons, in-take, in-drop, rising-head, rising-tail, rising-take, rising-drop}
 use Rattle.bearer.proofs.Members.{order, not-in}
-use Rattle.bearer.proofs.Marks.{waitingOf, Names}
-use Rattle.bearer.proofs.Pdcps.{pdcpOf}
+use Rattle.bearer.proofs.Marks.{Names}
 use Rattle.bearer.proofs.Accepts.{Highest, stays, moves-to, Took, takes}
-use Rattle.bearer.proofs.Flight.{Mark, Lifted, same, up, Says, Flight, all-there, then}
+use Rattle.bearer.proofs.Flight.{Mark, Lifted, same, up, Says, Flight, then}
 use Rattle.bearer.proofs.Joint.{Second, First, Joint, secondMark, masterMark}
 
 -- ---- lists

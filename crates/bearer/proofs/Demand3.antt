@@ -2,25 +2,23 @@
 -- (`joint-step`), and joined ends keep what the customer asks.
 -- Assumes nothing.
 use mathlib.Core.Path.{_≡_, refl, sym, _∙_, ap, subst}
-use mathlib.Core.Bool.{Bool, true, false, not}
-use mathlib.Core.List.{List, [], _∷_, _++_}
-use mathlib.Core.Logic.{_⊎_, inl, inr}
-use Prim.Native.Nat.{ℕ, zero, suc, _+_, _-_, _%_, _≤_, _<_}
+use mathlib.Core.Bool.{true, false}
+use mathlib.Core.List.{List, [], _∷_}
+use Prim.Native.Nat.{ℕ, _+_, _-_, _%_, _<_}
 use native.Mathlib.Omega.{arith}
 use native.Mathlib.Nat.{mod-lt, mod-eq-of-lt}
 use borrow.Author.Tests.{ltb-true}
 use lib.Dec.{ltb}
-use Rattle.layout.specs.Basics.{if_then_else_, _and_, Outcome, done, refused}
+use Rattle.layout.specs.Basics.{_and_}
 use Rattle.bearer.specs.Bearer.{isLength, numbers, half, pdcps, pdcpBefore}
 use Rattle.bearer.specs.Keeper as K
 use Rattle.bearer.specs.Ledger as G
-use Rattle.bearer.specs.Rule.{Fates}
-use Rattle.bearer.specs.Demand3.{World, Event, send, copy, stray, expire, confirm, status, deliver, other, take-one, numberOf, inFlight, step, OpenedAlike, Allowed, AllAllowed, after, Kept, Demand3}
-use Rattle.bearer.proofs.Index.{Indexed, image}
-use Rattle.bearer.proofs.Lists.{contrary, and-true}
+use Rattle.bearer.specs.Demand3.{World, Event, send, copy, stray, expire, confirm, status, deliver, other, take-one, numberOf, step, OpenedAlike, Allowed, AllAllowed, after, Kept, Demand3}
+use Rattle.bearer.proofs.Index.{Indexed}
+use Rattle.bearer.proofs.Lists.{and-true}
 use Rattle.bearer.proofs.Members.{in-none, passed, done-one}
 use Rattle.bearer.proofs.Follows.{follows-start}
-use Rattle.bearer.proofs.Lengths.{Roomy, roomy}
+use Rattle.bearer.proofs.Lengths.{roomy}
 use Rattle.bearer.proofs.Applied.{master-opened}
 use Rattle.bearer.proofs.Flight.{all-there}
 use Rattle.bearer.proofs.Joint.{Joint, joint-reported, joint-freed}

@@ -3,15 +3,14 @@
 -- Assumes nothing.
 use mathlib.Core.Path.{_≡_, refl, sym, _∙_}
 use mathlib.Core.Bool.{Bool, true, false, not}
-use mathlib.Core.List.{List, [], _∷_, _++_, map}
+use mathlib.Core.List.{List, [], _∷_}
 use mathlib.Core.Logic.{_⊎_, inl, inr, ⊎-elim}
-use Prim.Native.Nat.{ℕ, zero, suc, _+_, _-_, _≤_, _<_}
+use Prim.Native.Nat.{ℕ, _-_, _≤_, _<_}
 use native.Mathlib.Omega.{arith}
-use borrow.Author.Tests.{eq-eqb, ne-eqb, eqb-true, eqb-false, le-leb, lt-leb, leb-true, leb-false}
+use borrow.Author.Tests.{eq-eqb, eqb-true, eqb-false, le-leb, lt-leb, leb-true, leb-false}
 use lib.Dec.{eqb, leb}
-use lib.ListN.{length}
 use Rattle.layout.specs.Basics.{if_then_else_, _and_, _or_}
-use Rattle.bearer.specs.Ledger.{Fate, waiting, lost, Entry, Passed, waits, asLost, waitsFor, freeThrough}
+use Rattle.bearer.specs.Ledger.{waiting, lost, Entry, waits, asLost, waitsFor, freeThrough}
 use Rattle.bearer.specs.Rule.{isIn}
 use Rattle.bearer.specs.Demand3.{packets, Rising, In, without}
 use Rattle.bearer.specs.Meaning.{Each}

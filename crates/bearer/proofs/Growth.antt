@@ -1,15 +1,13 @@
 -- More is received and lost at the secondary: the master's part and the frames in flight say what they said.
 -- Assumes nothing.
-use mathlib.Core.Path.{_≡_, refl, sym, _∙_, ap, subst}
-use mathlib.Core.Bool.{Bool, true, false}
-use mathlib.Core.List.{List, [], _∷_, _++_, append-nil}
-use mathlib.Core.Logic.{_⊎_, inl, inr, ⊎-elim}
-use Prim.Native.Nat.{ℕ, zero, suc, _+_, _-_, _≤_, _<_}
-use native.Mathlib.Omega.{arith}
+use mathlib.Core.Path.{_≡_, sym, _∙_, ap, subst}
+use mathlib.Core.List.{List, [], _++_, append-nil}
+use mathlib.Core.Logic.{_⊎_, ⊎-elim}
+use Prim.Native.Nat.{ℕ, _+_, _-_, _≤_}
 use lib.ListN.{length, take, drop}
 use lib.Seq.{take-append-le, drop-append-le}
 use Rattle.bearer.specs.Ledger.{Ledger}
-use Rattle.bearer.specs.Rule.{Fates, isIn}
+use Rattle.bearer.specs.Rule.{Fates}
 use Rattle.bearer.specs.Demand3.{Built, In}
 use Rattle.bearer.proofs.Lists.{in-append}
 use Rattle.bearer.proofs.Flight.{Mark, Flight, flight-grows}

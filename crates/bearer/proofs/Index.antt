@@ -2,16 +2,16 @@
 -- Keeper.antt has distances on a circle. It is a step of the proof and no statement rests on it: proofs/Image.antt shows that
 -- the machine does the same, and proofs/Follows.antt that it is what the rule says.
 -- Assumes nothing.
-use mathlib.Core.Bool.{Bool, true, false, not}
+use mathlib.Core.Bool.{Bool, true, false}
 use mathlib.Core.List.{List, [], _∷_, _++_, map}
-use Prim.Native.Nat.{ℕ, zero, suc, _+_, _-_, _*_, _/_, max}
+use Prim.Native.Nat.{ℕ, zero, suc, _+_, _-_, _/_, max}
 use lib.Dec.{ltb, leb, eqb}
 use lib.ListN.{length, getD, take, drop, set}
-use Rattle.layout.specs.Basics.{if_then_else_, _and_, _or_, Outcome, done, refused}
+use Rattle.layout.specs.Basics.{if_then_else_, _and_, _or_, done, refused}
 use Rattle.layout.specs.Frames.{mostRanges}
 use Rattle.bearer.specs.Bearer.{After, window, mostRuns, mostRecords, half}
 use Rattle.bearer.specs.Losses.{Gap, gaps, sizeOf, lowest, frontOf}
-use Rattle.bearer.specs.Keeper.{Keeper, limitOf, indexOf, runWith}
+use Rattle.bearer.specs.Keeper.{Keeper, limitOf, runWith}
 use Rattle.bearer.specs.Demand3.{numberOf}
 use Rattle.bearer.specs.Meaning.{Held, recordAt, runAt, indexes}
 

@@ -2,18 +2,18 @@
 -- machine, the master's ledger is sound by packets, and the frames in flight take the master's mark to the secondary's.
 -- Assumes nothing.
 use mathlib.Core.Path.{_≡_, refl, sym, _∙_, ap}
-use mathlib.Core.Bool.{Bool, true, false}
+use mathlib.Core.Bool.{true, false}
 use mathlib.Core.List.{List, [], _∷_, _++_, map}
 use mathlib.Core.Logic.{_⊎_, inl, inr, ⊎-elim}
-use Prim.Native.Nat.{ℕ, zero, suc, _+_, _-_, _≤_, _<_}
+use Prim.Native.Nat.{ℕ, _+_, _-_, _≤_, _<_}
 use native.Mathlib.Omega.{arith}
 use lib.ListN.{length, take, drop, take-append-drop}
-use Rattle.bearer.specs.Bearer.{isLength, half, pdcps}
+use Rattle.bearer.specs.Bearer.{half, pdcps}
 use Rattle.bearer.specs.Keeper.{Keeper}
 use Rattle.bearer.specs.Ledger.{Ledger}
 use Rattle.bearer.specs.Rule.{Fates, isIn}
-use Rattle.bearer.specs.Demand3.{World, Built, numberOf, In, inFlight, inFrames, inRanges, confirmedThen, reportedLost, Deserved, FreedExactly, AllReported}
-use Rattle.bearer.specs.Meaning.{Held, indexes, packetsOf, Each}
+use Rattle.bearer.specs.Demand3.{World, numberOf, In, inFlight, inFrames, inRanges, confirmedThen, reportedLost, FreedExactly, AllReported}
+use Rattle.bearer.specs.Meaning.{Held, indexes, Each}
 use Rattle.bearer.proofs.Index.{Indexed, image}
 use Rattle.bearer.proofs.Lists.{contrary, in-take}
 use Rattle.bearer.proofs.Members.{not-in}

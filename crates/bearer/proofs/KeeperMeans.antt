@@ -3,13 +3,13 @@
 -- Assumes nothing.
 use mathlib.Core.Path.{_≡_, refl, sym, _∙_, ap, subst}
 use mathlib.Core.Bool.{Bool, true, false, not}
-use mathlib.Core.List.{List, [], _∷_, _++_, map}
-use mathlib.Core.Logic.{_⊎_, inl, inr, ⊎-elim}
+use mathlib.Core.List.{List, [], _∷_, _++_}
+use mathlib.Core.Logic.{_⊎_, ⊎-elim}
 use Prim.Native.Nat.{ℕ, zero, suc, _+_, _-_, _%_, _≤_, _<_}
 use native.Mathlib.Omega.{arith}
-use native.Mathlib.Nat.{mod-lt, mod-eq-of-lt, mod-add-mod}
+use native.Mathlib.Nat.{mod-eq-of-lt, mod-add-mod}
 use borrow.Author.Tests.{ltb-true, leb-false}
-use lib.Dec.{ltb, leb}
+use lib.Dec.{ltb}
 use lib.ListN.{length, getD, take, drop, length-map}
 use lib.Seq.{take-append-seam}
 use Rattle.circle.specs.Circle.{forward, forward-lands}
@@ -20,7 +20,7 @@ use Rattle.bearer.specs.Losses.{Gap, beforeBase}
 use Rattle.bearer.specs.Keeper as K
 use Rattle.bearer.specs.Rule.{Fates, arrival, expiry}
 use Rattle.bearer.specs.Demand3.{numberOf, inRanges}
-use Rattle.bearer.specs.Meaning.{Held, Means, Lowest, packetsOf, PastFirst, HoldsUp, lastPdcp, StatusSays, StatusesSay, Reached, opened, arrived, expired, confirmed, reported, KeeperMeans}
+use Rattle.bearer.specs.Meaning.{Held, Means, Lowest, packetsOf, PastFirst, HoldsUp, lastPdcp, StatusesSay, Reached, opened, arrived, expired, confirmed, reported, KeeperMeans}
 use Rattle.bearer.proofs.Index.{Indexed, image, noHeld, confirmedI, mayGoI, letGoI, highestI, reportedI}
 use Rattle.bearer.proofs.Lists.{contrary, and-true}
 use Rattle.bearer.proofs.Members.{order, passed, done-one}

@@ -5,13 +5,13 @@ use mathlib.Core.Path.{_≡_, refl, sym, _∙_, ap}
 use mathlib.Core.Bool.{Bool, true, false, not}
 use mathlib.Core.List.{List, [], _∷_, _++_, map}
 use mathlib.Core.Option.{Option, none, some}
-use Prim.Native.Nat.{ℕ, zero, suc, _+_}
+use Prim.Native.Nat.{ℕ, suc, _+_}
 use lib.Dec.{ltb, leb, eqb}
-use lib.ListN.{length, take, drop, length-map}
-use Rattle.layout.specs.Basics.{if_then_else_, _and_, _or_, alike, Outcome, done, refused}
+use lib.ListN.{take, drop, length-map}
+use Rattle.layout.specs.Basics.{if_then_else_, _and_, _or_, alike, done}
 use Rattle.layout.specs.Frames.{Range, Status, Reading, data-of, status-of, refuse, readFrame}
 use Rattle.bearer.specs.Bearer.{After, isLong, pdcps, mostEntries}
-use Rattle.bearer.specs.Ledger.{Fate, waiting, lost, Entry, Ledger, Passed, Accepted, Taken, waits, bears, asLost, noteIn, afterNumber, markLost, waitsFor, kept, counted, freeThrough, freed, inOrder, send, sentState, acceptMarked, acceptStatus, acceptReading, accept, takeAt, takeFrom, takeOldest}
+use Rattle.bearer.specs.Ledger.{waiting, lost, Entry, Ledger, Passed, waits, bears, noteIn, afterNumber, markLost, waitsFor, kept, counted, freeThrough, freed, inOrder, send, sentState, acceptMarked, acceptReading, accept, takeAt, takeFrom, takeOldest}
 use Rattle.bearer.proofs.ImageLists.{choice, map-take, map-drop}
 
 module _ {A B : Type 0} (f : A → B) where

@@ -4,8 +4,8 @@
 -- Assumes nothing.
 use mathlib.Core.Path.{_≡_, refl, sym, _∙_, ap}
 use mathlib.Core.Bool.{Bool, true, false}
-use mathlib.Core.List.{List, [], _∷_, _++_, map}
-use mathlib.Core.Option.{Option, none, some}
+use mathlib.Core.List.{List, [], _∷_, map}
+use mathlib.Core.Option.{none, some}
 use mathlib.Core.Logic.{_⊎_, inl, inr, ⊎-elim}
 use Prim.Native.Nat.{ℕ, zero, suc, _+_, _-_, _%_, _≤_, _<_}
 use native.Mathlib.Omega.{arith}
@@ -15,10 +15,9 @@ use borrow.Author.Tests.{eq-eqb, ne-eqb, eqb-true, eqb-false}
 use lib.Dec.{eqb}
 use lib.ListN.{length}
 use Rattle.layout.specs.Basics.{if_then_else_, _and_}
-use Rattle.layout.specs.Frames.{Range}
 use Rattle.bearer.specs.Bearer.{numbers}
 use Rattle.bearer.specs.Losses.{Gap}
-use Rattle.bearer.specs.Ledger.{Fate, waiting, lost, Entry, Passed, waits, bears, asLost, noteIn, afterNumber, markLost}
+use Rattle.bearer.specs.Ledger.{waiting, lost, Entry, waits, bears, asLost, afterNumber, markLost}
 use Rattle.bearer.specs.Rule.{isIn}
 use Rattle.bearer.specs.Demand3.{numberOf, packets, Rising, In}
 use Rattle.bearer.specs.Meaning.{runAt, packetsFrom, packetsOf, Each}

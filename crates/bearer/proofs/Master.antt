@@ -2,27 +2,27 @@
 -- numbers are in order, and what waits was sent past the highest last accepted.
 -- Assumes nothing.
 use mathlib.Core.Path.{_≡_, refl, sym, _∙_, ap}
-use mathlib.Core.Bool.{Bool, true, false, not}
-use mathlib.Core.List.{List, [], _∷_, _++_, map}
+use mathlib.Core.Bool.{Bool, true, false}
+use mathlib.Core.List.{List, [], _∷_, _++_}
 use mathlib.Core.Logic.{_⊎_, inl, inr, ⊎-elim}
-use Prim.Native.Nat.{ℕ, zero, suc, _+_, _-_, _/_, _%_, _≤_, _<_}
+use Prim.Native.Nat.{ℕ, suc, _+_, _-_, _/_, _%_, _≤_, _<_}
 use native.Mathlib.Omega.{arith}
 use native.Mathlib.Nat.{mod-add-mod}
-use borrow.Author.Tests.{ltb-true, ltb-false, leb-true, leb-false}
-use lib.Dec.{eqb, leb, ltb}
-use lib.ListN.{length, getD, length-append, List·getD-append}
+use borrow.Author.Tests.{ltb-true, leb-true, leb-false}
+use lib.Dec.{leb, ltb}
+use lib.ListN.{length, length-append, List·getD-append}
 use lib.Seq.{getD-append-seam}
-use Rattle.layout.specs.Basics.{if_then_else_, _and_, _or_, Outcome, done, refused}
+use Rattle.layout.specs.Basics.{if_then_else_, _and_, _or_}
 use Rattle.circle.specs.Circle.{forward}
-use Rattle.bearer.specs.Bearer.{isLength, numbers, half, pdcps, After, mostEntries}
-use Rattle.bearer.specs.Ledger.{Fate, waiting, lost, Entry, Ledger, waits, asLost, pastLast, withinHalf, inOrder, fromHighest, send, sentState}
+use Rattle.bearer.specs.Bearer.{isLength, numbers, pdcps, mostEntries}
+use Rattle.bearer.specs.Ledger.{waiting, Entry, Ledger, waits, pastLast, withinHalf, inOrder, fromHighest, send, sentState}
 use Rattle.bearer.specs.Demand3.{numberOf, packets, Rising, In, isDone}
 use Rattle.bearer.specs.Meaning.{Each}
 use Rattle.bearer.proofs.Lists.{tested, and-true, in-head, in-tail, in-cons, in-left, in-right, in-append, rising-tail, rising-head, rising-cons}
 use Rattle.bearer.proofs.Members.{in-none}
 use Rattle.bearer.proofs.Marks.{InStep, waitingOf}
 use Rattle.bearer.proofs.Pdcps.{pdcpOf, Ordered, few, sends}
-use Rattle.bearer.proofs.Lengths.{Roomy, roomy}
+use Rattle.bearer.proofs.Lengths.{roomy}
 
 -- the entries of a ledger, by packets
 pub record Entries (L first cut : ℕ) (sent : List ℕ) (es : List (Entry ℕ)) : Type 0 where

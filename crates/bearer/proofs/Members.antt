@@ -1,19 +1,18 @@
 -- A little more on packets in lists (Lists.antt): orders of two numbers, tests joined by or, and what is in no list.
 -- Assumes nothing.
-use mathlib.Core.Path.{_≡_, refl, sym, _∙_, ap}
+use mathlib.Core.Path.{_≡_, refl}
 use mathlib.Core.Bool.{Bool, true, false, not}
-use mathlib.Core.List.{List, [], _∷_, _++_}
+use mathlib.Core.List.{List, [], _∷_}
 use mathlib.Core.Logic.{_⊎_, inl, inr, ⊎-elim}
-use Prim.Native.Nat.{ℕ, zero, suc, _+_, _-_, _≤_, _<_}
+use Prim.Native.Nat.{ℕ, _-_, _≤_, _<_}
 use native.Mathlib.Omega.{arith}
 use borrow.Author.Tests.{ltb-true, ltb-false}
-use lib.Dec.{eqb, ltb}
-use lib.ListN.{length, take}
+use lib.Dec.{ltb}
 use Rattle.layout.specs.Basics.{if_then_else_, _or_, Outcome, done, refused}
 use Rattle.bearer.specs.Rule.{isIn}
 use Rattle.bearer.specs.Demand3.{Rising, In}
 use Rattle.bearer.specs.Meaning.{Each}
-use Rattle.bearer.proofs.Lists.{tested, refuted, contrary, in-head, in-tail, in-cons, rising-head, rising-tail}
+use Rattle.bearer.proofs.Lists.{tested, refuted, contrary, rising-head}
 
 -- one number is below another, or not
 pub order : (i j : ℕ) → (i < j) ⊎ (j ≤ i)

@@ -1,15 +1,14 @@
 -- Rule 35 keeps PDCP numbers in order: seen from the highest last accepted, the packets sent past it lie ever farther forward, none of
 -- them at it, and all within half the PDCP numbers. Once over the count P of PDCP numbers.
 -- Assumes nothing.
-use mathlib.Core.Path.{_≡_, refl, sym, _∙_, ap}
+use mathlib.Core.Path.{_≡_, sym, _∙_, ap}
 use mathlib.Core.List.{List, [], _∷_, _++_}
-use mathlib.Core.Logic.{_⊎_, inl, inr, ⊎-elim}
-use Prim.Native.Nat.{ℕ, zero, suc, _+_, _-_, _/_, _%_, _≤_, _<_}
+use mathlib.Core.Logic.{_⊎_, ⊎-elim}
+use Prim.Native.Nat.{ℕ, zero, suc, _+_, _-_, _/_, _≤_, _<_}
 use native.Mathlib.Omega.{arith}
-use native.Mathlib.Nat.{mod-eq-of-lt}
 use lib.ListN.{length, getD, length-append, List·getD-append}
-use lib.Seq.{getD-append-seam, getD-at}
-use Rattle.circle.specs.Circle.{forward, forward-lands, forward-self, forward-rest}
+use lib.Seq.{getD-append-seam}
+use Rattle.circle.specs.Circle.{forward, forward-self, forward-rest}
 use Rattle.bearer.proofs.Members.{order}
 
 -- the PDCP number of a packet

@@ -1,42 +1,39 @@
 -- The secondary is asked for a status: it is refused and nothing changes, or a frame is built that takes reporting to a new mark.
 -- Assumes nothing.
 use mathlib.Core.Path.{_≡_, refl, sym, _∙_, ap, subst}
-use mathlib.Core.Bool.{Bool, true, false, not}
+use mathlib.Core.Bool.{Bool, true, false}
 use mathlib.Core.List.{List, [], _∷_, _++_, map, append-nil}
 use mathlib.Core.Logic.{_⊎_, inl, inr, ⊎-elim}
-use Prim.Native.Nat.{ℕ, zero, suc, _+_, _-_, _%_, _^_, _≤_, _<_}
+use Prim.Native.Nat.{ℕ, zero, suc, _+_, _-_, _^_, _≤_, _<_}
 use native.Mathlib.Omega.{arith}
 use native.Mathlib.Nat.{mod-lt}
-use borrow.Author.Tests.{lt-ltb, le-ltb, ltb-false}
+use borrow.Author.Tests.{lt-ltb, le-ltb}
 use lib.Dec.{ltb}
 use lib.ListN.{length, getD, take, drop, length-take, length-append}
 use lib.Seq.{take-append-le, drop-append-le, take-append-seam}
-use Rattle.layout.specs.Basics.{if_then_else_, _and_, Outcome, done, refused, all}
-use Rattle.layout.specs.Frames.{Range, Status, Reading, status-of, readFrame, statusOctets, mostRanges, mostHighest, modulus, inForm, Written, writeStatus, place, unwritten}
-use Rattle.layout.proofs.Frame.{Frame, status-frame, WritableStatus}
+use Rattle.layout.specs.Basics.{if_then_else_, _and_, done, refused, all}
+use Rattle.layout.specs.Frames.{Status, Reading, readFrame, statusOctets, mostRanges, mostHighest, inForm, Written, writeStatus, place, unwritten}
+use Rattle.layout.proofs.Frame.{status-frame, WritableStatus}
 use Rattle.layout.proofs.Trips.{is-read}
-use Rattle.bearer.specs.Bearer.{isLength, isLong, numbers, half, pdcps}
+use Rattle.bearer.specs.Bearer.{isLength, isLong, numbers, pdcps}
 use Rattle.bearer.specs.Losses.{Gap}
 use Rattle.bearer.specs.Keeper as K
-use Rattle.bearer.specs.Rule.{Fates, isIn}
-use Rattle.bearer.specs.Demand3.{World, Built, numberOf, In, inFlight, inFrames, inRanges, rangesRead, lastConfirmed, builtBy, afterStatus}
-use Rattle.bearer.specs.Meaning.{Held, runAt, indexes, packetsOf, Each, Maximal}
+use Rattle.bearer.specs.Demand3.{World, Built, numberOf, In, inFlight, inFrames, inRanges, rangesRead, afterStatus}
+use Rattle.bearer.specs.Meaning.{Held, runAt, indexes, packetsOf, Each}
 use Rattle.bearer.proofs.Index.{Indexed, image, noHeld, letGoI, highestI, reportedI}
 use Rattle.bearer.proofs.Lists.{tested, in-split, in-each}
 use Rattle.bearer.proofs.ImageLists.{each-drop, each-take, map-drop}
-use Rattle.bearer.proofs.Members.{order, in-none}
-use Rattle.bearer.proofs.Follows.{Follows}
 use Rattle.bearer.proofs.FollowsStatus.{follows-status}
 use Rattle.bearer.proofs.Image.{InReach}
 use Rattle.bearer.proofs.ImageLaws.{positive}
 use Rattle.bearer.proofs.ImageStatus.{image-status, image-carried}
 use Rattle.bearer.proofs.Pdcps.{pdcpOf}
-use Rattle.bearer.proofs.Lengths.{Roomy, roomy}
-use Rattle.bearer.proofs.Flight.{Mark, Lifted, same, up, Says, Flight, flight-more}
-use Rattle.bearer.proofs.Joint.{Second, First, Joint, secondMark, masterMark, map-append}
+use Rattle.bearer.proofs.Lengths.{roomy}
+use Rattle.bearer.proofs.Flight.{Lifted, same, up, Says, flight-more}
+use Rattle.bearer.proofs.Joint.{Second, Joint, secondMark, map-append}
 use Rattle.bearer.proofs.FollowsMeans.{follows-reach}
 use Rattle.bearer.proofs.Delivery.{frames-append}
-use Rattle.bearer.proofs.Cut.{cutAfter, toldAfter, told-now, carried, told-enough, Last, the-last, cut-onward, cut-below-base, gone-before, kept-behind, above-after, below-after, deserving-after}
+use Rattle.bearer.proofs.Cut.{cutAfter, toldAfter, told-now, carried, told-enough, the-last, cut-onward, cut-below-base, gone-before, kept-behind, above-after, below-after, deserving-after}
 
 -- runs of packets are ranges of the form
 runs-fit : (L first : ℕ) (gs : List Gap) → all (inForm (isLong L)) (map (runAt L first) gs) ≡ true

@@ -4,12 +4,11 @@ use mathlib.Core.Path.{_≡_, refl, sym, _∙_, ap}
 use mathlib.Core.Bool.{Bool, true, false, not}
 use mathlib.Core.List.{List, [], _∷_, _++_}
 use mathlib.Core.Logic.{_⊎_, inl, inr, ⊎-elim}
-use Prim.Native.Nat.{ℕ, zero, suc, _+_, _≤_, _<_}
+use Prim.Native.Nat.{ℕ, suc, _+_}
 use native.Mathlib.Omega.{arith}
 use lib.ListN.{length, take, drop, length-append, take-append-drop}
 use Rattle.layout.specs.Basics.{if_then_else_, _or_}
-use Rattle.bearer.specs.Bearer.{After}
-use Rattle.bearer.specs.Ledger.{Entry, Ledger, Taken, waits, takeAt, takeFrom, takeOldest}
+use Rattle.bearer.specs.Ledger.{Entry, Ledger, waits, takeAt, takeFrom, takeOldest}
 use Rattle.bearer.proofs.Lists.{tested, contrary}
 use Rattle.bearer.proofs.Members.{or-cases}
 use Rattle.bearer.proofs.Marks.{waitingOf}

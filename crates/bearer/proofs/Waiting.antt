@@ -1,14 +1,12 @@
 -- Why the secondary never runs out of room or of numbers while both ends are joined: every packet from base on, and every one from the
 -- first unreported loss on, waits at the master, which holds at most 512.
 -- Assumes nothing.
-use mathlib.Core.Path.{_≡_, refl, sym, _∙_, ap}
+use mathlib.Core.Path.{_≡_, sym, _∙_, ap}
 use mathlib.Core.Bool.{Bool, true, false}
-use mathlib.Core.List.{List, [], _∷_, _++_}
-use mathlib.Core.Logic.{_⊎_, inl, inr, ⊎-elim}
-use Prim.Native.Nat.{ℕ, zero, suc, _+_, _-_, _/_, _≤_, _<_}
+use mathlib.Core.List.{List, [], _∷_}
+use mathlib.Core.Logic.{_⊎_, ⊎-elim}
+use Prim.Native.Nat.{ℕ, zero, suc, _+_, _-_, _≤_, _<_}
 use native.Mathlib.Omega.{arith}
-use borrow.Author.Tests.{eq-eqb, ne-eqb}
-use lib.Dec.{eqb}
 use lib.ListN.{length, take, drop}
 use lib.Seq.{take-take}
 use Rattle.layout.specs.Basics.{if_then_else_}
@@ -23,13 +21,13 @@ use Rattle.bearer.proofs.Index.{froms}
 use Rattle.bearer.proofs.Lists.{tested, contrary, in-head, in-tail, in-cons, in-take, in-drop, rising-head, rising-tail}
 use Rattle.bearer.proofs.Members.{order, in-none, not-in}
 use Rattle.bearer.proofs.Open.{in-packets, rising-packets, length-packets}
-use Rattle.bearer.proofs.Runs.{maximal-first, maximal-tail}
+use Rattle.bearer.proofs.Runs.{maximal-first}
 use Rattle.bearer.proofs.Marks.{waitingOf}
 use Rattle.bearer.proofs.Pdcps.{few}
-use Rattle.bearer.proofs.Lengths.{Roomy, roomy}
+use Rattle.bearer.proofs.Lengths.{roomy}
 use Rattle.bearer.proofs.Applied.{waiting-rising}
 use Rattle.bearer.proofs.Flight.{Flight, flight-cut, flight-told, flight-closed}
-use Rattle.bearer.proofs.Joint.{Second, First, Joint, secondMark, masterMark}
+use Rattle.bearer.proofs.Joint.{Joint}
 
 -- ---- counting
 

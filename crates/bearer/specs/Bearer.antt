@@ -1,8 +1,8 @@
 -- What both ends of a bearer share: its constants and its two number circles (document 01, "Two ends of one bearer").
 -- Assumes nothing.
-use mathlib.Core.Bool.{Bool, true, false}
-use Prim.Native.Nat.{ℕ, _+_, _-_, _*_, _/_, _%_, _^_}
-use lib.Dec.{ltb, leb, eqb}
+use mathlib.Core.Bool.{Bool}
+use Prim.Native.Nat.{ℕ, _+_, _-_, _/_, _%_, _^_}
+use lib.Dec.{eqb}
 use Rattle.circle.specs.Circle.{forward}
 use Rattle.layout.specs.Basics.{_and_, _or_, Outcome}
 use Rattle.layout.specs.Frames.{modulus}

@@ -14,11 +14,11 @@ use mathlib.Core.Path.{_≡_}
 use mathlib.Core.Bool.{Bool, true, false}
 use mathlib.Core.List.{List, [], _∷_, _++_, map}
 use mathlib.Core.Logic.{_⊎_, _↔_}
-use Prim.Native.Nat.{ℕ, zero, suc, _+_, _-_, _*_, _/_, _%_, _^_, _≤_, _<_, max}
+use Prim.Native.Nat.{ℕ, zero, suc, _+_, _-_, _/_, _%_, _^_, _≤_, _<_, max}
 use lib.Dec.{eqb}
 use lib.ListN.{length, getD, take, drop}
 use Rattle.layout.specs.Basics.{if_then_else_, Outcome, done, refused}
-use Rattle.layout.specs.Frames.{Range, Status, Reading, data-of, status-of, refuse, readFrame}
+use Rattle.layout.specs.Frames.{Range, Reading, data-of, status-of, refuse, readFrame}
 use Rattle.bearer.specs.Bearer.{numbers, ahead, After}
 use Rattle.bearer.specs.Keeper as K
 use Rattle.bearer.specs.Ledger as G

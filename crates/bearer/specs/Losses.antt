@@ -1,9 +1,9 @@
 -- Where numbers lie as seen from base, and what is given up: definitions on lists of numbers of a circle of M, for the
 -- secondary's machine (Keeper.antt). Distances are forward from base. Every definition is total.
 -- Assumes nothing.
-use mathlib.Core.Bool.{Bool, true, false, not}
+use mathlib.Core.Bool.{Bool, not}
 use mathlib.Core.List.{List, [], _∷_, _++_, map}
-use Prim.Native.Nat.{ℕ, zero, suc, _+_, _-_, _*_, _/_, _%_, max}
+use Prim.Native.Nat.{ℕ, suc, _+_, _-_, _/_, _%_}
 use lib.Dec.{ltb, leb, eqb}
 use lib.ListN.{drop}
 use Rattle.circle.specs.Circle.{forward}

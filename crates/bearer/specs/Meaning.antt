@@ -5,10 +5,10 @@ use mathlib.Core.Path.{_≡_}
 use mathlib.Core.Bool.{Bool, true, false}
 use mathlib.Core.List.{List, [], _∷_, _++_, map}
 use mathlib.Core.Logic.{_⊎_}
-use Prim.Native.Nat.{ℕ, zero, suc, _+_, _-_, _*_, _%_, _≤_, _<_}
+use Prim.Native.Nat.{ℕ, zero, suc, _+_, _-_, _≤_, _<_}
 use lib.ListN.{length, take, drop}
 use Rattle.circle.specs.Circle.{forward}
-use Rattle.layout.specs.Basics.{Outcome, done, refused}
+use Rattle.layout.specs.Basics.{done}
 use Rattle.layout.specs.Frames.{Range, Status, statusOctets}
 use Rattle.bearer.specs.Bearer.{numbers, half, mostRuns, mostRecords}
 use Rattle.bearer.specs.Losses.{Gap}

@@ -1,7 +1,7 @@
 -- The secondary's rule in document 01's own sentences, on packet indexes: packet 0 is the first one sent, 1 the next, and
 -- indexes never roll over. No definition of the machines is used here.
 -- Assumes nothing.
-use mathlib.Core.Bool.{Bool, true, false, not}
+use mathlib.Core.Bool.{Bool, false, not}
 use mathlib.Core.List.{List, [], _∷_, _++_}
 use Prim.Native.Nat.{ℕ, zero, suc, _+_, _-_, max}
 use lib.Dec.{eqb}

@@ -1,9 +1,9 @@
 -- A wrapping difference of 32 bits, reduced to k bits, is the distance on the circle of 2^k: once over k.
 -- Assumes nothing.
-use mathlib.Core.Path.{_≡_, refl, sym, _∙_, ap}
+use mathlib.Core.Path.{_≡_, sym, _∙_, ap}
 use Prim.Native.Nat.{ℕ, _+_, _-_, _*_, _%_, _^_, _≤_, _<_}
 use native.Mathlib.Omega.{arith}
-use native.Mathlib.Nat.{mod-eq-of-lt, add-comm, sub-add-cancel}
+use native.Mathlib.Nat.{mod-eq-of-lt, add-comm}
 use lib.Bits.{bitAnd, and-mask}
 use lib.Pow.{pow-pos, pow-lt, mod-mod-pow}
 use Rattle.circle.specs.Circle.{forward, forward-on}

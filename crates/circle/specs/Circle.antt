@@ -2,13 +2,9 @@
 -- "Forward from a to b" means (b - a) modulo M, or modulo 2^L for PDCP numbers.
 -- Assumes nothing.
 use mathlib.Core.Path.{_≡_, refl, sym, _∙_, ap}
-use mathlib.Core.Bool.{Bool, true, false}
-use mathlib.Core.Logic.{_⊎_, inl, inr, ⊎-elim}
-use Prim.Native.Nat.{ℕ, zero, suc, _+_, _-_, _*_, _/_, _%_, _^_, _≤_, _<_}
+use Prim.Native.Nat.{ℕ, zero, suc, _+_, _-_, _%_, _^_, _≤_, _<_}
 use native.Mathlib.Omega.{arith}
-use native.Mathlib.Nat.{mod-eq-of-lt, mod-eq-sub-mod, mod-lt, mod-mod, add-mod, add-mod-mod, mod-add-mod, add-mod-right, add-assoc, add-comm}
-use borrow.Author.Tests.{ltb-true, ltb-false}
-use lib.Dec.{ltb}
+use native.Mathlib.Nat.{mod-eq-of-lt, mod-lt, mod-mod, add-mod-mod, mod-add-mod, add-mod-right, add-assoc, add-comm}
 
 -- forward from a to b: (b - a) modulo M, worked without going below zero
 abbrev pub forward : ℕ → ℕ → ℕ → ℕ

@@ -1,12 +1,12 @@
 -- The six arrays as the machine's state: its runs and records as lists of numbers, and the state when all words are stored.
 -- Assumes nothing.
-use mathlib.Core.Path.{_≡_, refl, sym, _∙_, ap}
+use mathlib.Core.Path.{_≡_, sym, _∙_, ap}
 use mathlib.Core.List.{List}
 use Prim.Native.Nat.{ℕ, _≤_, _<_, min}
 use native.Mathlib.Omega.{arith}
 use lib.ListN.{length, getD, set, take}
 use lib.Seq.{length-take-le, getD-take, take-set-lt}
-use Rattle.layout.specs.Frames.{Range, rangesOf}
+use Rattle.layout.specs.Frames.{rangesOf}
 use Rattle.bearer.specs.Bearer.{mostRuns, mostRecords}
 use Rattle.bearer.specs.Keeper.{Keeper, Record, noRecord, delivered}
 use Rattle.keeper.specs.declared.Words.{Words}

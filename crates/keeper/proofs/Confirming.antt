@@ -1,6 +1,6 @@
 -- The machine's confirm, from the tests that the engine makes in the same order.
 -- Assumes nothing.
-use mathlib.Core.Path.{_≡_, refl, sym, _∙_, ap}
+use mathlib.Core.Path.{_≡_, _∙_}
 use mathlib.Core.Bool.{true, false}
 use mathlib.Core.List.{List}
 use Prim.Native.Nat.{ℕ, _≤_, _<_}
@@ -8,7 +8,6 @@ use lib.ListN.{length, getD, set}
 use borrow.Author.Tests.{eq-eqb, ne-eqb, lt-ltb, le-ltb, lt-leb, le-leb}
 use Rattle.layout.specs.Basics.{done, refused}
 use Rattle.layout.specs.Frames.{Range}
-use Rattle.bearer.specs.Bearer.{After}
 use Rattle.bearer.specs.Losses.{beforeBase}
 use Rattle.bearer.specs.Keeper.{Keeper, Record, noRecord, delivered, indexOf, confirmAt, confirm}
 use Rattle.keeper.specs.declared.Words.{Words}

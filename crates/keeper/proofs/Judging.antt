@@ -2,24 +2,24 @@
 -- Assumes nothing.
 use mathlib.Core.Path.{_≡_, refl, sym, _∙_, ap}
 use mathlib.Core.Bool.{Bool, true, false}
-use mathlib.Core.List.{List, [], _∷_, _++_, map}
+use mathlib.Core.List.{List, [], _∷_, _++_}
 use Prim.Native.Nat.{ℕ, zero, suc, _+_, _-_, _/_, _%_, _≤_, _<_, max}
 use native.Mathlib.Omega.{arith}
 use native.Mathlib.Numerals.{add-one}
 use lib.Dec.{ltb, leb, eqb}
-use lib.ListN.{length, getD, take, drop, length-map}
+use lib.ListN.{length, drop, length-map}
 use borrow.Author.Tests.{eq-eqb, ne-eqb, lt-ltb, le-ltb, lt-leb, le-leb, ltb-false}
 use Rattle.circle.specs.Circle.{forward}
-use Rattle.layout.specs.Basics.{if_then_else_, Outcome, done, refused}
+use Rattle.layout.specs.Basics.{if_then_else_, done, refused}
 use Rattle.layout.specs.Frames.{Range}
 use Rattle.bearer.specs.Bearer.{After, window, mostRuns, mostRecords, pdcps}
 use Rattle.bearer.specs.Losses.{fromOn, frontOf, firstBehind, topOf, offsets, fromBase, sizeOf, lowest}
-use Rattle.bearer.specs.Keeper.{Keeper, Record, hasRecord, floor, runsAfter, givenUp, limitOf, placeOf, arrived, arrivedBase, arriveAt, arrive, baseAfter, expireBelow, expire}
+use Rattle.bearer.specs.Keeper.{Keeper, Record, hasRecord, floor, runsAfter, givenUp, limitOf, placeOf, arrived, arrivedBase, arriveAt, arrive, expireBelow, expire}
 use Rattle.loss.proofs.Ends.{front-within}
 use Rattle.keeper.specs.declared.Words.{Words}
 use Rattle.keeper.specs.declared.Losses.{Losses}
 use Rattle.keeper.specs.View.{lengthIn}
-use Rattle.keeper.specs.Plans.{stateOf, circleOf, startsIn, numbersIn, movedTo, Losing, Loses, bearsBefore, arrivedTo, AcceptsArrival, AcceptsExpiry}
+use Rattle.keeper.specs.Plans.{stateOf, circleOf, startsIn, numbersIn, movedTo, Losing, bearsBefore, arrivedTo, AcceptsArrival, AcceptsExpiry}
 
 -- a call that leaves the state, with the number of a refusal
 abbrev pub refusing : {A : Type 0} → ℕ → Keeper → After Keeper A

@@ -1,16 +1,16 @@
 -- What a status lets go, one record at a time.
 -- Assumes nothing.
-use mathlib.Core.Path.{_≡_, refl, sym, _∙_, ap}
+use mathlib.Core.Path.{_≡_, refl, _∙_, ap}
 use mathlib.Core.Bool.{Bool, true, false}
-use mathlib.Core.List.{List, [], _∷_, _++_, map}
+use mathlib.Core.List.{List, [], _∷_}
 use Prim.Native.Nat.{ℕ, zero, suc, _+_, _≤_, _<_}
 use native.Mathlib.Omega.{arith}
 use native.Mathlib.Numerals.{add-one}
-use lib.ListN.{length, getD, take, drop}
+use lib.ListN.{length, getD, drop}
 use lib.Seq.{drop-cons}
 use Rattle.layout.specs.Basics.{if_then_else_}
 use Rattle.layout.specs.Frames.{Range, mostRanges}
-use Rattle.bearer.specs.Keeper.{Keeper, Record, noRecord, mayGo, runWith, letGo, highestOf}
+use Rattle.bearer.specs.Keeper.{Record, noRecord, mayGo, runWith, letGo, highestOf}
 use Rattle.keeper.specs.declared.Words.{Words}
 use Rattle.keeper.specs.View.{isSet, recordsOf}
 use Rattle.keeper.specs.Plans.{stateOf, circleOf, startsIn, goesBefore, goneOf}

@@ -1,19 +1,14 @@
 -- New runs behind those that are listed: the first may join the last listed, and then the list is one shorter.
 -- Assumes nothing.
 use mathlib.Core.Path.{_≡_, refl, sym, _∙_, ap}
-use mathlib.Core.Bool.{Bool, true, false}
-use mathlib.Core.List.{List, [], _∷_, _++_, map, append-nil, append-assoc}
-use Prim.Native.Nat.{ℕ, zero, suc, _+_, _-_, _%_, _≤_, _<_}
+use mathlib.Core.Bool.{true, false}
+use mathlib.Core.List.{List, [], _∷_, _++_, append-nil, append-assoc}
+use Prim.Native.Nat.{ℕ, zero, suc, _+_, _-_, _≤_, _<_}
 use native.Mathlib.Omega.{arith}
-use native.Mathlib.Numerals.{add-one}
-use lib.Dec.{eqb}
 use lib.ListN.{length, getD, set, take, drop, length-append, length-map}
-use lib.Seq.{append-snoc, set-set, set-getD, set-comm, take-suc, take-take, getD-take, take-at, length-take-le, sets, sets-eq}
-use Rattle.circle.specs.Circle.{forward}
-use Rattle.layout.specs.Basics.{if_then_else_}
+use lib.Seq.{set-set, set-getD, set-comm, take-suc, take-take, getD-take, take-at, length-take-le, sets, sets-eq}
 use Rattle.layout.specs.Frames.{Range, rangesOf}
-use Rattle.bearer.specs.Losses.{Gap, runOf, joined, withRuns}
-use Rattle.loss.specs.Tally.{firstFrom}
+use Rattle.bearer.specs.Losses.{joined, withRuns}
 use Rattle.keeper.specs.Plans.{startsIn, endsIn, adjoinsLast, adjoins}
 use Rattle.keeper.proofs.Ranges.{ranges-take, ranges-append, ranges-own, starts-own, ranges-length}
 

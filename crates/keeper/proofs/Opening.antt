@@ -1,14 +1,13 @@
 -- The machine's open, from the tests that the engine makes in the same order.
 -- Assumes nothing.
-use mathlib.Core.Path.{_≡_, refl, sym, _∙_, ap}
+use mathlib.Core.Path.{_≡_}
 use mathlib.Core.Bool.{true, false}
-use mathlib.Core.List.{List, []}
+use mathlib.Core.List.{[]}
 use Prim.Native.Nat.{ℕ, _≤_, _<_}
-use lib.Dec.{ltb}
 use borrow.Author.Tests.{lt-ltb, le-ltb}
-use Rattle.layout.specs.Basics.{Outcome, done, refused}
+use Rattle.layout.specs.Basics.{done, refused}
 use Rattle.layout.specs.Frames.{modulus}
-use Rattle.bearer.specs.Bearer.{After, isLength, isLong, numbers, pdcps, pdcpBefore}
+use Rattle.bearer.specs.Bearer.{isLength, isLong, numbers, pdcps, pdcpBefore}
 use Rattle.bearer.specs.Keeper.{Keeper, openKeeper}
 use Rattle.keeper.specs.View.{lengthIn, opensInto}
 use Rattle.keeper.proofs.Lengths.{length-read}

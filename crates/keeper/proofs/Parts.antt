@@ -1,14 +1,14 @@
 -- What a call on the front part of an array leaves there; and lists of numbers at their last element, or past the first 162.
 -- Assumes nothing.
 use mathlib.Core.Path.{_≡_, refl, sym, _∙_, ap}
-use mathlib.Core.Bool.{Bool, true, false}
+use mathlib.Core.Bool.{true, false}
 use mathlib.Core.List.{List, [], _∷_, _++_, append-assoc}
 use Prim.Native.Nat.{ℕ, zero, suc, _+_, _-_, _≤_, _<_}
 use native.Mathlib.Omega.{arith}
 use native.Mathlib.Numerals.{add-one}
 use lib.Dec.{ltb, eqb}
 use lib.ListN.{length, getD, take, drop, length-append, length-take, length-drop, drop-of-length-le}
-use lib.Seq.{take-suc, drop-cons, length-take-le, take-take, take-at, take-append-le, drop-append-le, take-all}
+use lib.Seq.{take-suc, drop-cons, length-take-le, take-at, take-append-le, drop-append-le, take-all}
 use Rattle.circle.specs.Circle.{forward}
 use Rattle.layout.specs.Frames.{mostRanges}
 use Rattle.keeper.specs.Plans.{bearsBefore, adjoinsLast, goesBefore}

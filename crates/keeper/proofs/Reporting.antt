@@ -2,16 +2,16 @@
 -- Assumes nothing.
 use mathlib.Core.Path.{_≡_, refl, sym, _∙_, ap}
 use mathlib.Core.Bool.{Bool, true, false}
-use mathlib.Core.List.{List, []}
+use mathlib.Core.List.{List}
 use Prim.Native.Nat.{ℕ, _≤_, _<_, min}
 use native.Mathlib.Omega.{arith}
 use lib.Dec.{ltb}
 use lib.ListN.{length, take, drop, length-take, drop-of-length-le}
 use lib.Seq.{take-take, take-all}
 use borrow.Author.Tests.{eq-eqb, ne-eqb, ltb-true, ltb-false}
-use Rattle.layout.specs.Basics.{_and_, Outcome, done, refused}
+use Rattle.layout.specs.Basics.{_and_, refused}
 use Rattle.layout.specs.Frames.{Range, Status, Written, mostRanges, writeStatus}
-use Rattle.bearer.specs.Keeper.{Keeper, Record, statusNow, reportedState, Reported, reportedAs, status}
+use Rattle.bearer.specs.Keeper.{Keeper, Record, statusNow, reportedAs, status}
 use Rattle.keeper.specs.declared.Words.{Words}
 use Rattle.keeper.specs.Plans.{stateOf}
 

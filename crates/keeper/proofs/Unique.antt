@@ -5,7 +5,6 @@ use mathlib.Core.Path.{_≡_, refl, sym, _∙_, ap}
 use mathlib.Core.List.{List}
 use Prim.Native.Nat.{ℕ}
 use native.Mathlib.Omega.{arith}
-use Rattle.layout.specs.Basics.{Outcome}
 use Rattle.bearer.specs.Bearer.{After}
 use Rattle.bearer.specs.Keeper.{Keeper, Reported}
 use Rattle.keeper.specs.declared.Opened as O

@@ -2,15 +2,15 @@
 -- given up. A judgement is over lists of numbers alone; these say how the machine's runs and records stand in them.
 -- Assumes nothing.
 use mathlib.Core.Path.{_≡_}
-use mathlib.Core.Bool.{Bool, true, false}
+use mathlib.Core.Bool.{Bool, false}
 use mathlib.Core.List.{List, [], _∷_, _++_, map}
 use Prim.Native.Nat.{ℕ, zero, suc, _+_, _%_, _≤_, _<_}
 use lib.Dec.{ltb, eqb}
 use lib.ListN.{length, getD, take, drop}
 use Rattle.circle.specs.Circle.{forward}
-use Rattle.layout.specs.Basics.{if_then_else_, _and_, Outcome, done, refused}
+use Rattle.layout.specs.Basics.{if_then_else_, _and_, done, refused}
 use Rattle.layout.specs.Frames.{Range, rangesOf}
-use Rattle.bearer.specs.Bearer.{After, window, mostRuns, mostRecords, isLong, numbers}
+use Rattle.bearer.specs.Bearer.{window, mostRuns, mostRecords, numbers}
 use Rattle.bearer.specs.Losses.{offsets, fromBase, gaps, sizeOf, lowest, runOf, withRuns}
 use Rattle.bearer.specs.Keeper.{Keeper, Record, circle, held, arrive, expire, letGo, highestOf}
 use Rattle.keeper.specs.View.{isSet, lengthIn}

@@ -2,15 +2,15 @@
 -- document 01's words. Slots past a count are no part of the state; a count past the end counts as full, and a length
 -- that is none of document 01's counts as 18, so that arrays of any content are a state.
 -- Assumes nothing.
-use mathlib.Core.Bool.{Bool, true, false, not}
+use mathlib.Core.Bool.{Bool, not}
 use mathlib.Core.List.{List, [], _∷_}
-use Prim.Native.Nat.{ℕ, zero, suc, min}
+use Prim.Native.Nat.{ℕ, min}
 use lib.Dec.{eqb}
 use lib.ListN.{getD, take}
 use Rattle.layout.specs.Basics.{if_then_else_, Outcome, done, refused}
-use Rattle.layout.specs.Frames.{Range, rangesOf}
+use Rattle.layout.specs.Frames.{rangesOf}
 use Rattle.bearer.specs.Bearer.{After, mostRuns, mostRecords}
-use Rattle.bearer.specs.Keeper.{Keeper, Record, Reported, openKeeper}
+use Rattle.bearer.specs.Keeper.{Keeper, Record, Reported}
 use Rattle.keeper.specs.declared.Opened as O
 use Rattle.keeper.specs.declared.Counted as C
 use Rattle.keeper.specs.declared.Confirmed as F

@@ -1,6 +1,5 @@
 -- What the reader's answers mean in document 01's words, and what the walk over a status's ranges answers.
 -- Assumes nothing.
-use mathlib.Core.Bool.{Bool, true, false}
 use mathlib.Core.List.{List}
 use Prim.Native.Nat.{ℕ, _+_, _-_, _*_, _≤_}
 use lib.Dec.{ltb, eqb}

@@ -1,36 +1,29 @@
-use Prim.Native.Nat.{ℕ, _+_, _-_, _*_, _^_, _≤_, _<_, min}
+-- `forward`: the wrapping difference, masked, is the distance on the circle; from 32 bits on it is the difference itself. Assumes nothing.
+use Prim.Native.Nat.{_-_, _^_, _<_, min}
 use native.Mathlib.Omega.{arith}
-use mathlib.Core.Path.{_≡_, refl, sym, _∙_, ap}
+use mathlib.Core.Path.{_≡_, sym, _∙_}
 use lib.Pow.{pow-pos}
 use native.Mathlib.Nat.{mod-eq-of-lt}
 use Rattle.circle.proofs.Wrapped.{wrapped, shifted, masked}
 use borrow.Author.Needs.{needs}
 use Rattle.circle.proofs.forward.Statement.{statement}
 use Rattle.circle.proofs.forward.Tie as tie
-use Rattle.circle.proofs.forward.Reads as reads
-use Rattle.circle.proofs.forward.Lts as lts
-use Rattle.std.proofs.num.wrapping_sub_u32.Reads as wrapping-sub-u32-reads
 
--- src/lib.rt:11:9
 wrapping-sub-u32-requires : tie.Need-wrapping-sub-u32-requires
 wrapping-sub-u32-requires c κs = search needs
 
--- src/lib.rt:12:26
 shl-result : tie.Need-shl-result
 shl-result c = search needs
 
--- src/lib.rt:12:25
 sub-result : tie.Need-sub-result
 sub-result c = rw (shifted (c .before .before .args .bits) (c .if1 .taken)) (pow-pos (c .before .before .args .bits))
 
--- src/lib.rt:8:1
 returns : tie.Need-returns
 returns c =
     let a = c .before .before .args in
     let least : min (a .bits) 32 ≡ a .bits = omega (arith, c .if1 .taken) in
     rw least (masked (a .bits) (a .a) (a .b) (c .before .wrapping-sub-u32 .result) (c .if1 .taken) (c .before .wrapping-sub-u32 .ensures))
 
--- src/lib.rt:8:1
 returns-2 : tie.Need-returns-2
 returns-2 c =
     let a = c .before .before .args in

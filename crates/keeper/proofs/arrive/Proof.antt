@@ -1,32 +1,20 @@
+-- `arrive`: a judged arrival changes runs, records and words as the machine does; a refused one changes no array. Assumes nothing.
 use Rattle.keeper.proofs.Unique.{lost-not}
-use lib.ListN.{length, getD}
-use Rattle.layout.specs.Frames.{Range, rangesOf, modulus}
+use lib.ListN.{length, getD, take}
+use Rattle.layout.specs.Frames.{rangesOf, modulus}
 use Rattle.bearer.specs.Bearer.{mostRuns, mostRecords}
-use Rattle.bearer.specs.Keeper.{Keeper, circle, held, arrive}
+use Rattle.bearer.specs.Keeper.{Keeper, circle, held}
 use Rattle.keeper.specs.declared.Words.{Words}
 use Rattle.keeper.specs.View.{recordsOf, keeperIn}
 use Rattle.keeper.specs.Plans.{JudgesArrival, AcceptsArrival, newRecord, withRecord, movedTo, runsWith}
 use Rattle.keeper.proofs.Arrays.{HeldSizes, ListedSizes, held-count, listed-count, numbers-held, count-held, starts-listed, ends-listed, stored-state}
 use Rattle.keeper.proofs.Given.{lists-of, runs-of}
-use Prim.Native.Nat.{ℕ, zero, suc, _+_, _-_, _*_, _/_, _%_, _^_, _≤_, _<_, min, max}
+use Prim.Native.Nat.{ℕ, _+_, _-_, _≤_, _<_, min}
 use native.Mathlib.Omega.{arith}
 use mathlib.Core.Path.{_≡_, refl, sym, _∙_, ap}
-use lib.ListN.{length, getD, set, take, drop}
-use mathlib.Core.List.{List, [], _∷_, _++_, map}
 use borrow.Author.Needs.{needs}
 use Rattle.keeper.proofs.arrive.Statement.{statement}
 use Rattle.keeper.proofs.arrive.Tie as tie
-use Rattle.keeper.proofs.arrive.Reads as reads
-use Rattle.keeper.proofs.arrive.Lts as lts
-use Rattle.keeper.proofs.add_record.Reads as add-record-reads
-use Rattle.keeper.proofs.first.Reads as first-reads
-use Rattle.keeper.proofs.held_in.Reads as held-in-reads
-use Rattle.keeper.proofs.is_long.Reads as is-long-reads
-use Rattle.keeper.proofs.judge_arrival.Reads as judge-arrival-reads
-use Rattle.keeper.proofs.list_runs.Reads as list-runs-reads
-use Rattle.keeper.proofs.listed_in.Reads as listed-in-reads
-use Rattle.keeper.proofs.read.Reads as read-reads
-use Rattle.keeper.proofs.store.Reads as store-reads
 
 -- {h
 -- the state before
@@ -97,51 +85,39 @@ records-are c =
     rw all (c .add-record .ensures ∙ rw (held-is (c .before .before .before .before .before .before .before .before .before .before .before .before .before .before .before .before .before .before .before .before .before .before .before .before .before)))
 -- h}
 
--- src/lib.rt:107:9
 read-requires : tie.Need-read-requires
 read-requires c κs = search needs
 
--- src/lib.rt:108:9
 held-in-requires : tie.Need-held-in-requires
 held-in-requires c κs = search needs
 
--- src/lib.rt:109:9
 listed-in-requires : tie.Need-listed-in-requires
 listed-in-requires c κs = search needs
 
--- src/lib.rt:110:28
 first-requires : tie.Need-first-requires
 first-requires c κs = search needs
 
--- src/lib.rt:110:50
 first-requires-2 : tie.Need-first-requires-2
 first-requires-2 c κs = search needs
 
--- src/lib.rt:110:73
 first-requires-3 : tie.Need-first-requires-3
 first-requires-3 c κs = search needs
 
--- src/lib.rt:110:11
 judge-arrival-requires : tie.Need-judge-arrival-requires
 judge-arrival-requires c κs = search needs
 
--- src/lib.rt:111:26
 enum-known-n : tie.Need-enum-known-n
 enum-known-n c = search needs
 
--- src/lib.rt:112:29
 enum-known-place : tie.Need-enum-known-place
 enum-known-place c = search needs
 
--- src/lib.rt:114:23
 first-requires-4 : tie.Need-first-requires-4
 first-requires-4 c κs = search needs
 
--- src/lib.rt:114:53
 is-long-requires : tie.Need-is-long-requires
 is-long-requires c κs = search needs
 
--- src/lib.rt:114:13
 list-runs-requires : tie.Need-list-runs-requires
 list-runs-requires c κs =
     let a = c .before .before .before .before .before .before .before .before .before .before .before .before .before .before .before .before .before .before .before .before .before .before .before .before .before .before .before .before .before .before .before .before .before .before .args in
@@ -149,34 +125,27 @@ list-runs-requires c κs =
     let l = accepts (c .before .before .before .before .before .before .before .before) .loses in
     lists-of (circle-is (c .before .before)) (base-is (c .before .before)) (numbers-are (c .before .before .before)) (listed-is (c .before .before .before .before .before .before .before .before .before .before .before .before .before .before .before .before .before .before .before .before)) (a .starts .now) (a .ends .now) (l .losing) (omega (arith, z)) (z .starts ∙ sym (z .ends)) (omega (arith, z .starts, l .few))
 
--- src/lib.rt:115:13
 add-record-requires : tie.Need-add-record-requires
 add-record-requires c κs =
     let z = held-sizes (c .before .before .before .before .before .before .before .before .before .before .before .before .before .before .before .before .before .before .before .before .before .before .before .before .before .before .before .before .before) in
     let h = room (c .before .before .before .before .before .before .before .before .before .before .before .before) in
     (h .0, omega (arith, z, h), omega (arith, z, h), omega (arith, z, h))
 
--- src/lib.rt:123:27
 cast-t55 : tie.Need-cast-t55
 cast-t55 c = omega (arith, accepts (c .before .before .before .before .before .before .before .before .before .before .before .before .before .before .before) .loses .few)
 
--- src/lib.rt:124:30
 cast-t56 : tie.Need-cast-t56
 cast-t56 c = omega (arith, room (c .before .before .before .before .before .before .before .before .before .before .before .before .before .before .before))
 
--- src/lib.rt:124:30
 add-t57 : tie.Need-add-t57
 add-t57 c = omega (arith, room (c .before .before .before .before .before .before .before .before .before .before .before .before .before .before .before))
 
--- src/lib.rt:116:13
 store-requires : tie.Need-store-requires
 store-requires c κs = search needs
 
--- src/lib.rt:92:1
 returns : tie.Need-returns
 returns c = (sym (rw (c .before .n .given .1) at (judged (c .before .before .before))), λ n e. refl)
 
--- src/lib.rt:92:1
 returns-2 : tie.Need-returns-2
 returns-2 c =
     let a = c .before .before .before .before .before .before .before .before .before .before .before .before .before .before .before .before .before .before .before .before .before .before .before .before .before .before .before .before .before .before .before .before .before .before .before .before .before .before .before .before .before .before .args in

@@ -1,34 +1,24 @@
+-- `base_after`: the lowest distance that is not taken, at or past the limit. Assumes nothing.
 use native.Mathlib.Numerals.{add-one}
 use borrow.Author.Tests.{eq-eqb, ne-eqb}
 use Rattle.layout.specs.Frames.{modulus}
 use Rattle.bearer.specs.Losses.{offsets, lowest}
 use Rattle.loss.proofs.Gaps.{lowest-snoc}
-use Prim.Native.Nat.{ℕ, zero, suc, _+_, _-_, _*_, _/_, _%_, _^_, _≤_, _<_, min, max}
-use native.Mathlib.Omega.{arith}
-use mathlib.Core.Path.{_≡_, refl, sym, _∙_, ap}
-use lib.ListN.{length, getD, set, take, drop}
-use mathlib.Core.List.{List, [], _∷_, _++_, map}
+use Prim.Native.Nat.{_-_}
+use mathlib.Core.Path.{_≡_, sym, _∙_}
 use borrow.Author.Needs.{needs}
 use Rattle.keeper.proofs.base_after.Statement.{statement}
 use Rattle.keeper.proofs.base_after.Tie as tie
-use Rattle.keeper.proofs.base_after.Reads as reads
-use Rattle.keeper.proofs.base_after.Lts as lts
-use Rattle.loss.proofs.lowest.Reads as lowest-reads
-use Rattle.loss.proofs.onward.Reads as onward-reads
 
--- src/lib.rt:517:9
 lowest-requires : tie.Need-lowest-requires
 lowest-requires c κs = search needs
 
--- src/lib.rt:519:35
 add-onward : tie.Need-add-onward
 add-onward c = search needs
 
--- src/lib.rt:519:9
 onward-requires : tie.Need-onward-requires
 onward-requires c κs = search needs
 
--- src/lib.rt:519:9
 returns : tie.Need-returns
 returns c =
     let a = c .before .before .before .before .args in
@@ -38,11 +28,9 @@ returns c =
     let same : a .top ≡ low = sym (c .before .if1 .taken) ∙ is in
     rw (lowest-snoc (a .limit) os (a .top), eq-eqb (a .top) low same, ← add-one low, ← is) (c .onward .ensures)
 
--- src/lib.rt:521:5
 onward-requires-2 : tie.Need-onward-requires-2
 onward-requires-2 c κs = search needs
 
--- src/lib.rt:513:1
 returns-2 : tie.Need-returns-2
 returns-2 c =
     let a = c .before .before .before .before .args in

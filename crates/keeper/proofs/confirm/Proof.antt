@@ -1,34 +1,24 @@
+-- `confirm`: the record of the number is found by the machine's search, and its mark is set. Assumes nothing.
 use Rattle.keeper.proofs.Unique.{confirmed-not}
 use lib.Seq.{length-take-le}
-use mathlib.Core.Bool.{true, false}
-use lib.ListN.{length}
+use mathlib.Core.Bool.{true}
+use lib.ListN.{length, getD}
 use borrow.Author.Tests.{eq-eqb, ne-eqb, not-true, not-false}
 use Rattle.layout.specs.Frames.{modulus}
 use Rattle.bearer.specs.Bearer.{mostRecords}
 use Rattle.bearer.specs.Losses.{beforeBase}
-use Rattle.bearer.specs.Keeper.{Keeper, noRecord, indexOf, circle, held, confirm}
-use Rattle.keeper.specs.View.{isSet, keeperIn, recordsOf}
+use Rattle.bearer.specs.Keeper.{Keeper, circle, held}
+use Rattle.keeper.specs.View.{keeperIn}
 use Rattle.keeper.specs.Plans.{wordsIn}
 use Rattle.keeper.specs.declared.Words.{Words}
 use Rattle.keeper.proofs.Arrays.{HeldSizes, held-count, numbers-held, mark-held, marked-held}
 use Rattle.keeper.proofs.Confirming.{closed-confirm, no-number, nowhere, not-before, marked-already, marked}
-use Prim.Native.Nat.{ℕ, zero, suc, _+_, _-_, _*_, _/_, _%_, _^_, _≤_, _<_, min, max}
+use Prim.Native.Nat.{ℕ, _-_, _<_, min}
 use native.Mathlib.Omega.{arith}
 use mathlib.Core.Path.{_≡_, refl, sym, _∙_, ap}
-use lib.ListN.{length, getD, set, take, drop}
-use mathlib.Core.List.{List, [], _∷_, _++_, map}
 use borrow.Author.Needs.{needs}
 use Rattle.keeper.proofs.confirm.Statement.{statement}
 use Rattle.keeper.proofs.confirm.Tie as tie
-use Rattle.keeper.proofs.confirm.Reads as reads
-use Rattle.keeper.proofs.confirm.Lts as lts
-use Rattle.keeper.proofs.first.Reads as first-reads
-use Rattle.keeper.proofs.held_in.Reads as held-in-reads
-use Rattle.keeper.proofs.is_long.Reads as is-long-reads
-use Rattle.keeper.proofs.read.Reads as read-reads
-use Rattle.loss.proofs.index_of.Reads as index-of-reads
-use Rattle.loss.proofs.is_before.Reads as is-before-reads
-use Rattle.loss.proofs.modulus.Reads as modulus-reads
 
 -- {h
 -- the state before
@@ -78,54 +68,43 @@ within : (c : tie.Else3) → c .before .index-of .result < min (words (c .before
 within c = rw (held-is (c .before .before .before .before .before)) at (c .if3 .left)
 -- h}
 
--- src/lib.rt:106:9
 read-requires : tie.Need-read-requires
 read-requires c κs = search needs
 
--- src/lib.rt:108:9
 returns : tie.Need-returns
 returns c =
     let k = state (c .before .before .before .before) in
     (sym (closed-confirm (words (c .before .before .before .before)) (k .runs) (k .records) (c .before .before .before .before .args .number) (λ (e : words (c .before .before .before .before) .closed ≡ 0). c .if1 .taken (ap (λ (w : Words). w .closed) (c .before .before .read .ensures) ∙ e))), λ n e. refl)
 
--- src/lib.rt:110:9
 is-long-requires : tie.Need-is-long-requires
 is-long-requires c κs = search needs
 
--- src/lib.rt:111:8
 modulus-requires : tie.Need-modulus-requires
 modulus-requires c κs = search needs
 
--- src/lib.rt:112:9
 returns-2 : tie.Need-returns-2
 returns-2 c =
     let k = state (c .before .before .before .before .before .before .before) in
     (sym (no-number (words (c .before .before .before .before .before .before .before)) (k .runs) (k .records) (c .before .before .before .before .before .before .before .args .number) (opened (c .before .before .before)) (rw (c .before .modulus .ensures, circle-is (c .before .before)) at (c .if2 .taken))), λ n e. refl)
 
--- src/lib.rt:114:9
 held-in-requires : tie.Need-held-in-requires
 held-in-requires c κs = search needs
 
--- src/lib.rt:115:29
 first-requires : tie.Need-first-requires
 first-requires c κs = search needs
 
--- src/lib.rt:115:9
 index-of-requires : tie.Need-index-of-requires
 index-of-requires c κs = search needs
 
--- src/lib.rt:117:9
 returns-3 : tie.Need-returns-3
 returns-3 c =
     let k = state (c .before .before .before .before .before .before .before .before .before .before .before .before .before .before .before .before .before .before .before) in
     let ns = c .before .before .first .result .now in
     (sym (nowhere (words (c .before .before .before .before .before .before .before .before .before .before .before .before .before .before .before .before .before .before .before)) (k .runs) (k .records) (c .before .before .before .before .before .before .before .before .before .before .before .before .before .before .before .before .before .before .before .args .number) (opened (c .before .before .before .before .before .before .before .before .before .before .before .before .before .before .before)) (good (c .before .before .before .before .before .before .before .before .before .before .before .before)) ns (seen (c .before .before)) (c .before .index-of .result) (c .before .index-of .ensures) (rw (count (c .before .before)) (c .if3 .taken))), λ n e. refl)
 
--- src/lib.rt:119:9
 is-before-requires : tie.Need-is-before-requires
 is-before-requires c κs = search needs
 
--- src/lib.rt:120:9
 returns-4 : tie.Need-returns-4
 returns-4 c =
     let k = state (c .before .before .before .before .before .before .before .before .before .before .before .before .before .before .before .before .before .before .before .before .before) in
@@ -133,15 +112,12 @@ returns-4 c =
     (sym (not-before (words (c .before .before .before .before .before .before .before .before .before .before .before .before .before .before .before .before .before .before .before .before .before)) (k .runs) (k .records) (c .before .before .before .before .before .before .before .before .before .before .before .before .before .before .before .before .before .before .before .before .before .args .number) (opened (c .before .before .before .before .before .before .before .before .before .before .before .before .before .before .before .before .before)) (good (c .before .before .before .before .before .before .before .before .before .before .before .before .before .before)) ns (seen (c .before .before .before .before)) (c .before .before .before .index-of .result) (c .before .before .before .index-of .ensures) (found (c .before .before))
     (sym (before-is (c .before)) ∙ not-true _ (c .if4 .taken))), λ n e. refl)
 
--- src/lib.rt:122:8
 mul-if5 : tie.Need-mul-if5
 mul-if5 c = search needs
 
--- src/lib.rt:122:8
 element-copy-out-if5 : tie.Need-element-copy-out-if5
 element-copy-out-if5 c = search needs
 
--- src/lib.rt:123:9
 returns-5 : tie.Need-returns-5
 returns-5 c =
     let a = c .before .before .before .before .before .before .before .before .before .before .before .before .before .before .before .before .before .before .before .before .before .before .before .args in
@@ -151,15 +127,12 @@ returns-5 c =
     (sym (marked-already (words (c .before .before .before .before .before .before .before .before .before .before .before .before .before .before .before .before .before .before .before .before .before .before .before)) (k .runs) (k .records) (a .number) (opened (c .before .before .before .before .before .before .before .before .before .before .before .before .before .before .before .before .before .before .before)) (good (c .before .before .before .before .before .before .before .before .before .before .before .before .before .before .before .before)) (c .before .before .before .before .before .before .first .result .now) (seen (c .before .before .before .before .before .before)) at (c .before .before .before .before .before .index-of .ensures) (found (c .before .before .before .before)) (past (c .before .before))
     (mark ∙ rw (ne-eqb (getD (a .marks .now) at 0) 0 (c .if5 .taken)))), λ n e. refl)
 
--- src/lib.rt:125:5
 mul-marks : tie.Need-mul-marks
 mul-marks c = search needs
 
--- src/lib.rt:125:5
 element-write-marks : tie.Need-element-write-marks
 element-write-marks c = search needs
 
--- src/lib.rt:92:1
 returns-6 : tie.Need-returns-6
 returns-6 c =
     let a = c .before .before .before .before .before .before .before .before .before .before .before .before .before .before .before .before .before .before .before .before .before .before .before .args in

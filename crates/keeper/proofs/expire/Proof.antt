@@ -1,38 +1,20 @@
+-- `expire`: a judged expiry changes runs and words as the machine does; a refused one changes no array. Assumes nothing.
 use Rattle.keeper.proofs.Unique.{lost-not}
-use Rattle.bearer.specs.Keeper.{expire}
-use lib.ListN.{length}
-use Rattle.bearer.specs.Losses.{withRuns}
+use lib.ListN.{length, getD, take}
 use Rattle.bearer.specs.Keeper.{Keeper, circle, held}
-use Rattle.keeper.specs.View.{isSet, lengthIn, recordsOf, keeperIn}
+use Rattle.keeper.specs.View.{keeperIn}
 use Rattle.keeper.specs.Plans.{JudgesExpiry, AcceptsExpiry, movedTo, runsWith}
 use Rattle.keeper.proofs.Arrays.{HeldSizes, ListedSizes, held-count, listed-count, numbers-held, ends-listed, stored-state}
 use Rattle.keeper.proofs.Given.{lists-of, runs-of}
 use Rattle.keeper.specs.declared.Words.{Words}
-use mathlib.Core.Bool.{true, false}
-use Rattle.layout.specs.Frames.{Range, rangesOf, modulus}
+use Rattle.layout.specs.Frames.{rangesOf, modulus}
 use Rattle.bearer.specs.Bearer.{mostRuns, mostRecords}
-use Rattle.bearer.specs.Keeper.{Keeper, circle}
-use Rattle.keeper.specs.View.{recordsOf, keeperIn}
-use Rattle.keeper.specs.Plans.{circleOf, wordsIn, JudgesExpiry, AcceptsExpiry, Lists}
-use Rattle.keeper.proofs.Arrays.{HeldSizes, ListedSizes, held-count, listed-count, numbers-held, ends-listed, stored-state}
-use Prim.Native.Nat.{ℕ, zero, suc, _+_, _-_, _*_, _/_, _%_, _^_, _≤_, _<_, min, max}
+use Prim.Native.Nat.{ℕ, _-_, min}
 use native.Mathlib.Omega.{arith}
 use mathlib.Core.Path.{_≡_, refl, sym, _∙_, ap}
-use lib.ListN.{length, getD, set, take, drop}
-use mathlib.Core.List.{List, [], _∷_, _++_, map}
 use borrow.Author.Needs.{needs}
 use Rattle.keeper.proofs.expire.Statement.{statement}
 use Rattle.keeper.proofs.expire.Tie as tie
-use Rattle.keeper.proofs.expire.Reads as reads
-use Rattle.keeper.proofs.expire.Lts as lts
-use Rattle.keeper.proofs.first.Reads as first-reads
-use Rattle.keeper.proofs.held_in.Reads as held-in-reads
-use Rattle.keeper.proofs.is_long.Reads as is-long-reads
-use Rattle.keeper.proofs.judge_expiry.Reads as judge-expiry-reads
-use Rattle.keeper.proofs.list_runs.Reads as list-runs-reads
-use Rattle.keeper.proofs.listed_in.Reads as listed-in-reads
-use Rattle.keeper.proofs.read.Reads as read-reads
-use Rattle.keeper.proofs.store.Reads as store-reads
 
 -- {h
 -- the state before
@@ -88,47 +70,36 @@ runs-are c =
     ∙ runs-of (circle-is (c .before .before .before)) (base-is (c .before .before .before)) (numbers-are (c .before .before .before .before)) (listed-is (c .before .before .before .before .before .before .before .before .before .before .before .before .before .before .before .before .before .before)) (rangesOf (c .before .before .before .before .before .before .before .before .before .before .before .before .before .before .before .before .before .before .before .before .before .before .before .before .before .before .before .before .before .before .before .before .args .starts .now) (c .before .before .before .before .before .before .before .before .before .before .before .before .before .before .before .before .before .before .before .before .before .before .before .before .before .before .before .before .before .before .before .before .args .ends .now)) (lost .limit))
 -- h}
 
--- src/lib.rt:147:9
 read-requires : tie.Need-read-requires
 read-requires c κs = search needs
 
--- src/lib.rt:148:9
 held-in-requires : tie.Need-held-in-requires
 held-in-requires c κs = search needs
 
--- src/lib.rt:149:9
 listed-in-requires : tie.Need-listed-in-requires
 listed-in-requires c κs = search needs
 
--- src/lib.rt:150:27
 first-requires : tie.Need-first-requires
 first-requires c κs = search needs
 
--- src/lib.rt:150:49
 first-requires-2 : tie.Need-first-requires-2
 first-requires-2 c κs = search needs
 
--- src/lib.rt:150:11
 judge-expiry-requires : tie.Need-judge-expiry-requires
 judge-expiry-requires c κs = search needs
 
--- src/lib.rt:151:25
 enum-known-n : tie.Need-enum-known-n
 enum-known-n c = search needs
 
--- src/lib.rt:152:26
 enum-known-plan : tie.Need-enum-known-plan
 enum-known-plan c = search needs
 
--- src/lib.rt:154:23
 first-requires-3 : tie.Need-first-requires-3
 first-requires-3 c κs = search needs
 
--- src/lib.rt:154:53
 is-long-requires : tie.Need-is-long-requires
 is-long-requires c κs = search needs
 
--- src/lib.rt:154:13
 list-runs-requires : tie.Need-list-runs-requires
 list-runs-requires c κs =
     let a = c .before .before .before .before .before .before .before .before .before .before .before .before .before .before .before .before .before .before .before .before .before .before .before .before .before .before .before .before .before .before .before .args in
@@ -136,19 +107,15 @@ list-runs-requires c κs =
     let l = accepts (c .before .before .before .before .before .before .before .before) .loses in
     lists-of (circle-is (c .before .before)) (base-is (c .before .before)) (numbers-are (c .before .before .before)) (listed-is (c .before .before .before .before .before .before .before .before .before .before .before .before .before .before .before .before .before)) (a .starts .now) (a .ends .now) (l .losing) (omega (arith, z)) (z .starts ∙ sym (z .ends)) (omega (arith, z .starts, l .few))
 
--- src/lib.rt:162:27
 cast-t43 : tie.Need-cast-t43
 cast-t43 c = omega (arith, accepts (c .before .before .before .before .before .before .before .before .before .before .before) .loses .few)
 
--- src/lib.rt:155:13
 store-requires : tie.Need-store-requires
 store-requires c κs = search needs
 
--- src/lib.rt:134:1
 returns : tie.Need-returns
 returns c = (sym (rw (c .before .n .given .1) at (judged (c .before .before .before))), λ n e. refl)
 
--- src/lib.rt:134:1
 returns-2 : tie.Need-returns-2
 returns-2 c =
     let a = c .before .before .before .before .before .before .before .before .before .before .before .before .before .before .before .before .before .before .before .before .before .before .before .before .before .before .before .before .before .before .before .before .before .before .before .args in

@@ -1,24 +1,18 @@
+-- `first`: the front of an array, as a list. Assumes nothing.
 use lib.Seq.{length-take-le, take-all}
-use Prim.Native.Nat.{ℕ, zero, suc, _+_, _-_, _*_, _/_, _%_, _^_, _≤_, _<_, min, max}
+use Prim.Native.Nat.{_-_}
 use native.Mathlib.Omega.{arith}
-use mathlib.Core.Path.{_≡_, refl, sym, _∙_, ap}
-use lib.ListN.{length, getD, set, take, drop}
-use mathlib.Core.List.{List, [], _∷_, _++_, map}
+use mathlib.Core.Path.{sym}
 use borrow.Author.Needs.{needs}
 use Rattle.keeper.proofs.first.Statement.{statement}
 use Rattle.keeper.proofs.first.Tie as tie
-use Rattle.keeper.proofs.first.Reads as reads
-use Rattle.keeper.proofs.first.Lts as lts
 
--- src/lib.rt:327:9
 slice-aggregate-result : tie.Need-slice-aggregate-result
 slice-aggregate-result c = sym (length-take-le (c .before .before .args .n) (c .before .before .args .a .now) (omega arith))
 
--- src/lib.rt:327:9
 returns : tie.Need-returns
 returns c = search needs
 
--- src/lib.rt:323:1
 returns-2 : tie.Need-returns-2
 returns-2 c = sym (take-all (c .before .args .n) (c .before .args .a .now) (c .if1 .left))
 

@@ -1,34 +1,20 @@
-use mathlib.Core.Bool.{true, false}
+-- `judge_arrival`: the tests are the machine's, in its order, and what is accepted is its plan. Assumes nothing.
 use lib.ListN.{length}
 use Rattle.layout.specs.Frames.{Range, rangesOf, modulus}
-use Rattle.bearer.specs.Losses.{fromOn, firstBehind}
+use Rattle.bearer.specs.Losses.{fromOn}
 use Rattle.bearer.specs.Keeper.{Record, limitOf}
 use Rattle.loss.proofs.Forms.{modulus-bounds, ahead-below}
 use Rattle.loss.proofs.Ends.{front-within, first-below}
 use Rattle.keeper.specs.Plans.{circleOf, numbersIn, startsIn, endsIn, Losing}
 use Rattle.keeper.proofs.Ranges.{ends-own}
 use Rattle.keeper.proofs.Judging.{OnTime, Placed, InSpan, aheadOf, floorOf, closed-arrival, bad-number, bad-pdcp, late, again, span, many-runs, many-records, accepted}
-use Prim.Native.Nat.{ℕ, zero, suc, _+_, _-_, _*_, _/_, _%_, _^_, _≤_, _<_, min, max}
+use Prim.Native.Nat.{_+_, _-_, _/_, _≤_}
 use native.Mathlib.Omega.{arith}
-use mathlib.Core.Path.{_≡_, refl, sym, _∙_, ap}
-use lib.ListN.{length, getD, set, take, drop}
-use mathlib.Core.List.{List, [], _∷_, _++_, map}
+use mathlib.Core.Path.{_≡_, refl, sym, _∙_}
+use mathlib.Core.List.{List}
 use borrow.Author.Needs.{needs}
 use Rattle.keeper.proofs.judge_arrival.Statement.{statement}
 use Rattle.keeper.proofs.judge_arrival.Tie as tie
-use Rattle.keeper.proofs.judge_arrival.Reads as reads
-use Rattle.keeper.proofs.judge_arrival.Lts as lts
-use Rattle.keeper.proofs.arrived_base.Reads as arrived-base-reads
-use Rattle.keeper.proofs.floor.Reads as floor-reads
-use Rattle.keeper.proofs.has_record.Reads as has-record-reads
-use Rattle.keeper.proofs.is_long.Reads as is-long-reads
-use Rattle.keeper.proofs.limit_of.Reads as limit-of-reads
-use Rattle.keeper.proofs.lost_below.Reads as lost-below-reads
-use Rattle.keeper.proofs.pdcp_limit.Reads as pdcp-limit-reads
-use Rattle.loss.proofs.ahead.Reads as ahead-reads
-use Rattle.loss.proofs.front.Reads as front-reads
-use Rattle.loss.proofs.half.Reads as half-reads
-use Rattle.loss.proofs.modulus.Reads as modulus-reads
 
 -- {h
 -- M
@@ -83,48 +69,39 @@ limit-is : (c : tie.After-lost-below) → c .lost-below .result .limit ≡ limit
 limit-is c = c .lost-below .ensures .0 ∙ c .before .limit-of .ensures ∙ rw (ahead-is (c .before .before .before .before .before .before .before .before .before .before))
 -- h}
 
--- src/lib.rt:203:9
 returns : tie.Need-returns
 returns c =
     let a = c .before .before .before .before .before .args in
     λ (runs : List Range) (records : List Record) (seen : numbersIn records ≡ a .numbers .now) (starts : startsIn runs ≡ a .starts .now) (ends : endsIn runs ≡ a .ends .now).
       closed-arrival (a .w) runs records (a .number) (a .pdcp) (c .if1 .taken)
 
--- src/lib.rt:205:9
 is-long-requires : tie.Need-is-long-requires
 is-long-requires c κs = search needs
 
--- src/lib.rt:206:8
 modulus-requires : tie.Need-modulus-requires
 modulus-requires c κs = search needs
 
--- src/lib.rt:207:9
 returns-2 : tie.Need-returns-2
 returns-2 c =
     let a = c .before .before .before .before .before .before .before .before .args in
     λ (runs : List Range) (records : List Record) (seen : numbersIn records ≡ a .numbers .now) (starts : startsIn runs ≡ a .starts .now) (ends : endsIn runs ≡ a .ends .now).
       bad-number (a .w) runs records (a .number) (a .pdcp) (c .before .before .before .if1 .left) (rw (circle-is (c .before)) at (c .if2 .taken))
 
--- src/lib.rt:209:8
 pdcp-limit-requires : tie.Need-pdcp-limit-requires
 pdcp-limit-requires c κs = search needs
 
--- src/lib.rt:210:9
 returns-3 : tie.Need-returns-3
 returns-3 c =
     let a = c .before .before .before .before .before .before .before .before .before .before .args in
     λ (runs : List Range) (records : List Record) (seen : numbersIn records ≡ a .numbers .now) (starts : startsIn runs ≡ a .starts .now) (ends : endsIn runs ≡ a .ends .now).
       bad-pdcp (a .w) runs records (a .number) (a .pdcp) (c .before .before .before .before .before .if1 .left) (rw (circle-is (c .before .before .before)) at (c .before .before .if2 .left)) (rw (c .before .pdcp-limit .ensures) at (c .if3 .taken))
 
--- src/lib.rt:213:9
 ahead-requires : tie.Need-ahead-requires
 ahead-requires c κs = search needs
 
--- src/lib.rt:214:8
 half-requires : tie.Need-half-requires
 half-requires c κs = search needs
 
--- src/lib.rt:215:9
 returns-4 : tie.Need-returns-4
 returns-4 c =
     let a = c .before .before .before .before .before .before .before .before .before .before .before .before .before .args in
@@ -132,34 +109,27 @@ returns-4 c =
       late (a .w) runs records (a .number) (a .pdcp) (c .before .before .before .before .before .before .before .before .if1 .left) (rw (circle-is (c .before .before .before .before .before .before)) at (c .before .before .before .before .before .if2 .left)) (rw (c .before .before .before .before .pdcp-limit .ensures) at (c .before .before .before .if3 .left))
       (rw (ahead-is (c .before .before), half-is (c .before)) at (c .if4 .taken))
 
--- src/lib.rt:217:50
 add-front : tie.Need-add-front
 add-front c = search needs
 
--- src/lib.rt:217:9
 front-requires : tie.Need-front-requires
 front-requires c κs = search needs
 
--- src/lib.rt:218:8
 has-record-requires : tie.Need-has-record-requires
 has-record-requires c κs = place-within c
 
--- src/lib.rt:219:9
 returns-5 : tie.Need-returns-5
 returns-5 c =
     let a = c .before .before .before .before .before .before .before .before .before .before .before .before .before .before .before .before .args in
     λ (runs : List Range) (records : List Record) (seen : numbersIn records ≡ a .numbers .now) (starts : startsIn runs ≡ a .starts .now) (ends : endsIn runs ≡ a .ends .now).
       again (a .w) runs records (a .numbers .now) (a .starts .now) seen starts (a .number) (a .pdcp) (c .before .before .front .result) (placed (c .before .before)) (sym (c .before .has-record .ensures) ∙ c .if5 .taken)
 
--- src/lib.rt:221:8
 half-requires-2 : tie.Need-half-requires-2
 half-requires-2 c κs = search needs
 
--- src/lib.rt:221:28
 floor-requires : tie.Need-floor-requires
 floor-requires c κs = search needs
 
--- src/lib.rt:221:28
 add-if6 : tie.Need-add-if6
 add-if6 c =
     let a = c .before .before .before .before .before .before .before .before .before .before .before .before .before .before .before .before .before .before .args in
@@ -168,7 +138,6 @@ add-if6 c =
     omega (arith, c .floor .ensures, c .before .before .before .before .before .before .before .ahead .ensures, modulus-bounds long, ahead-below long (a .w .base) (a .number),
       first-below (modulus long) (a .w .base) pos (a .numbers .now), first-below (modulus long) (a .w .base) pos (a .starts .now))
 
--- src/lib.rt:222:9
 returns-6 : tie.Need-returns-6
 returns-6 c =
     let a = c .before .before .before .before .before .before .before .before .before .before .before .before .before .before .before .before .before .before .before .args in
@@ -176,15 +145,12 @@ returns-6 c =
       span (a .w) runs records (a .numbers .now) (a .starts .now) seen starts (a .number) (a .pdcp) (c .before .before .before .before .before .front .result) (placed (c .before .before .before .before .before)) (sym (c .before .before .before .before .has-record .ensures) ∙ c .before .before .before .if5 .left)
       (rw (floor-is (c .before), ahead-is (c .before .before .before .before .before .before .before .before), half-again (c .before .before)) at (c .if6 .taken))
 
--- src/lib.rt:224:54
 limit-of-requires : tie.Need-limit-of-requires
 limit-of-requires c κs = search needs
 
--- src/lib.rt:224:9
 lost-below-requires : tie.Need-lost-below-requires
 lost-below-requires c κs = search needs
 
--- src/lib.rt:226:9
 returns-7 : tie.Need-returns-7
 returns-7 c =
     let a = c .before .before .before .before .before .before .before .before .before .before .before .before .before .before .before .before .before .before .before .before .before .before .before .args in
@@ -192,7 +158,6 @@ returns-7 c =
       many-runs (a .w) runs records (a .numbers .now) (a .starts .now) seen starts (a .number) (a .pdcp) (c .before .before .before .before .before .before .before .before .before .front .result) (in-span (c .before .before .before .before))
       (c .before .before .lost-below .result) (losing (c .before .before) runs ends) (limit-is (c .before .before)) (c .if7 .taken)
 
--- src/lib.rt:229:9
 returns-8 : tie.Need-returns-8
 returns-8 c =
     let a = c .before .before .before .before .before .before .before .before .before .before .before .before .before .before .before .before .before .before .before .before .before .before .before .before .args in
@@ -200,14 +165,12 @@ returns-8 c =
       many-records (a .w) runs records (a .numbers .now) (a .starts .now) seen starts (a .number) (a .pdcp) (c .before .before .before .before .before .before .before .before .before .before .front .result) (in-span (c .before .before .before .before .before))
       (c .before .before .before .lost-below .result) (losing (c .before .before .before) runs ends) (limit-is (c .before .before .before)) (c .before .if7 .left) (c .if8 .taken)
 
--- src/lib.rt:231:9
 arrived-base-requires : tie.Need-arrived-base-requires
 arrived-base-requires c κs =
     let a = c .before .before .before .before .before .before .before .before .before .before .before .before .before .before .before .before .before .before .before .before .before .before .before .before .args in
     let long = c .before .before .before .before .before .before .before .before .before .before .before .before .before .before .before .before .before .before .is-long .result in
     (place-within (c .before .before .before .before .before .before .before .before .before .before), within (c .before .before .before), omega (arith, c .before .before .before .before .before .before .before .before .before .before .before .before .before .ahead .ensures, modulus-bounds long, ahead-below long (a .w .base) (a .number)))
 
--- src/lib.rt:198:1
 returns-9 : tie.Need-returns-9
 returns-9 c =
     let a = c .before .before .before .before .before .before .before .before .before .before .before .before .before .before .before .before .before .before .before .before .before .before .before .before .before .args in

@@ -1,27 +1,21 @@
+-- `judge_expiry`: the tests are the machine's, in its order, and what is accepted is its plan. Assumes nothing.
 use lib.ListN.{length}
 use Rattle.layout.specs.Frames.{Range, rangesOf, modulus}
 use Rattle.bearer.specs.Losses.{topOf}
 use Rattle.bearer.specs.Keeper.{Record}
 use Rattle.loss.proofs.Forms.{modulus-bounds}
 use Rattle.loss.proofs.Ends.{top-below}
-use Rattle.keeper.specs.Plans.{circleOf, stateOf, numbersIn, endsIn, Losing}
+use Rattle.keeper.specs.Plans.{circleOf, numbersIn, endsIn, Losing}
 use Rattle.keeper.proofs.Parts.{rest-part}
 use Rattle.keeper.proofs.Ranges.{ends-own}
 use Rattle.keeper.proofs.Judging.{closed-expiry, no-gap, many-below, accepted-below}
-use Prim.Native.Nat.{ℕ, zero, suc, _+_, _-_, _*_, _/_, _%_, _^_, _≤_, _<_, min, max}
+use Prim.Native.Nat.{_-_, _≤_}
 use native.Mathlib.Omega.{arith}
-use mathlib.Core.Path.{_≡_, refl, sym, _∙_, ap}
-use lib.ListN.{length, getD, set, take, drop}
-use mathlib.Core.List.{List, [], _∷_, _++_, map}
+use mathlib.Core.Path.{_≡_, refl, _∙_}
+use mathlib.Core.List.{List}
 use borrow.Author.Needs.{needs}
 use Rattle.keeper.proofs.judge_expiry.Statement.{statement}
 use Rattle.keeper.proofs.judge_expiry.Tie as tie
-use Rattle.keeper.proofs.judge_expiry.Reads as reads
-use Rattle.keeper.proofs.judge_expiry.Lts as lts
-use Rattle.keeper.proofs.base_after.Reads as base-after-reads
-use Rattle.keeper.proofs.is_long.Reads as is-long-reads
-use Rattle.keeper.proofs.lost_below.Reads as lost-below-reads
-use Rattle.loss.proofs.top_of.Reads as top-of-reads
 
 -- {h
 -- the highest accepted, on the bearer's circle
@@ -37,32 +31,26 @@ within : (c : tie.After-lost-below) → c .lost-below .result .from ≤ length (
 within c = let es = c .before .before .before .before .before .before .before .before .args .ends .now in losing c (rangesOf es es) (ends-own es es refl) .from-within
 -- h}
 
--- src/lib.rt:331:9
 returns : tie.Need-returns
 returns c =
     λ (runs : List Range) (records : List Record) (seen : numbersIn records ≡ c .before .before .before .before .args .numbers .now) (listed : endsIn runs ≡ c .before .before .before .before .args .ends .now).
       closed-expiry (c .before .before .before .before .args .w) runs records (c .if1 .taken)
 
--- src/lib.rt:333:9
 is-long-requires : tie.Need-is-long-requires
 is-long-requires c κs = search needs
 
--- src/lib.rt:335:9
 top-of-requires : tie.Need-top-of-requires
 top-of-requires c κs = search needs
 
--- src/lib.rt:337:9
 returns-2 : tie.Need-returns-2
 returns-2 c =
     let a = c .before .before .before .before .before .before .before .args in
     λ (runs : List Range) (records : List Record) (seen : numbersIn records ≡ a .numbers .now) (listed : endsIn runs ≡ a .ends .now).
       no-gap (a .w) runs records (a .numbers .now) seen (c .before .before .before .if1 .left) (c .before .top-of .result) (top-is (c .before)) (c .if2 .taken)
 
--- src/lib.rt:339:9
 lost-below-requires : tie.Need-lost-below-requires
 lost-below-requires c κs = search needs
 
--- src/lib.rt:341:9
 returns-3 : tie.Need-returns-3
 returns-3 c =
     let a = c .before .before .before .before .before .before .before .before .before .before .args in
@@ -70,30 +58,24 @@ returns-3 c =
       many-below (a .w) runs records (a .numbers .now) seen (c .before .before .before .before .before .before .if1 .left) (c .before .before .before .before .top-of .result) (top-is (c .before .before .before .before)) (c .before .before .before .if2 .left)
       (c .before .before .lost-below .result) (losing (c .before .before) runs listed) (c .before .before .lost-below .ensures .0) (c .if3 .taken)
 
--- src/lib.rt:344:27
 mul-base-after : tie.Need-mul-base-after
 mul-base-after c = omega (arith, within (c .before .before), c .before .before .before .before .before .before .before .before .before .before .good)
 
--- src/lib.rt:344:27
 sub-base-after : tie.Need-sub-base-after
 sub-base-after c = within (c .before .before)
 
--- src/lib.rt:344:27
 part-base-after-start : tie.Need-part-base-after-start
 part-base-after-start c = within (c .before .before)
 
--- src/lib.rt:344:27
 part-base-after-end : tie.Need-part-base-after-end
 part-base-after-end c = search needs
 
--- src/lib.rt:344:9
 base-after-requires : tie.Need-base-after-requires
 base-after-requires c κs =
     let a = c .before .before .before .before .before .before .before .before .before .before .before .args in
     let long = c .before .before .before .before .before .before .is-long .result in
     omega (arith, c .before .before .before .before .before .top-of .ensures, top-below (modulus long) (a .w .base) (modulus-bounds long .0) (a .numbers .now), modulus-bounds long)
 
--- src/lib.rt:326:1
 returns-4 : tie.Need-returns-4
 returns-4 c =
     let a = c .before .before .before .before .before .before .before .before .before .before .before .before .args in

@@ -1,30 +1,22 @@
-use lib.ListN.{length-map, length-drop}
+-- `lost_below`: the gaps below the limit are counted once, and are the runs that would be listed. Assumes nothing.
+use lib.ListN.{length-map, length-drop, length, drop}
 use Rattle.circle.specs.Circle.{forward}
 use Rattle.loss.specs.declared.GivenUp.{GivenUp}
-use Prim.Native.Nat.{ℕ}
-use mathlib.Core.Bool.{true, false}
+use Prim.Native.Nat.{ℕ, _+_, _-_, _^_, _≤_, _<_}
 use Rattle.layout.specs.Frames.{Range, modulus}
 use Rattle.bearer.specs.Losses.{fromOn, frontOf, fromBase, offsets, gaps}
 use Rattle.loss.specs.Tally.{told}
 use Rattle.loss.proofs.Ends.{front-within}
 use Rattle.loss.proofs.Gaps.{gaps-none, gaps-count}
-use Rattle.keeper.specs.Plans.{endsIn, adjoinsLast, Losing}
+use Rattle.keeper.specs.Plans.{endsIn}
 use Rattle.keeper.proofs.Parts.{rest-part}
 use Rattle.keeper.proofs.Given.{none-lost, joined-lost, apart-lost}
-use Prim.Native.Nat.{ℕ, zero, suc, _+_, _-_, _*_, _/_, _%_, _^_, _≤_, _<_, min, max}
 use native.Mathlib.Omega.{arith}
 use mathlib.Core.Path.{_≡_, refl, sym, _∙_, ap}
-use lib.ListN.{length, getD, set, take, drop}
-use mathlib.Core.List.{List, [], _∷_, _++_, map}
+use mathlib.Core.List.{List, []}
 use borrow.Author.Needs.{needs}
 use Rattle.keeper.proofs.lost_below.Statement.{statement}
 use Rattle.keeper.proofs.lost_below.Tie as tie
-use Rattle.keeper.proofs.lost_below.Reads as reads
-use Rattle.keeper.proofs.lost_below.Lts as lts
-use Rattle.keeper.proofs.adjoins.Reads as adjoins-reads
-use Rattle.loss.proofs.front.Reads as front-reads
-use Rattle.loss.proofs.given_up.Reads as given-up-reads
-use Rattle.loss.proofs.onward.Reads as onward-reads
 
 -- the numbers from `from` on are those at or past base
 from-base : (c : tie.After-front) → (c .front .result ≤ length (c .before .before .before .before .args .numbers .now))
@@ -49,7 +41,6 @@ count-fits c =
     let from : List ℕ = fromBase (modulus (a .long)) (a .base) (a .numbers .now) in
     omega (arith, count, gaps-count 0 (a .limit) os, length-map from (forward (modulus (a .long)) (a .base)), length-drop (frontOf (fromOn (modulus (a .long)) (a .base) 0) (a .numbers .now)) (a .numbers .now), c .before .before .before .before .before .before .good)
 
--- src/lib.rt:256:9
 returns : tie.Need-returns
 returns c =
     let a = c .before .before .before .args in
@@ -60,31 +51,24 @@ returns c =
         rw (← seen) (none-lost M (a .base) (a .numbers .now) runs (length (a .numbers .now)) 0 (omega arith) (λ (h : 0 < 0). absurd (omega arith)) (told []) (rw none) refl),
     )
 
--- src/lib.rt:258:9
 front-requires : tie.Need-front-requires
 front-requires c κs = search needs
 
--- src/lib.rt:259:31
 mul-given-up : tie.Need-mul-given-up
 mul-given-up c = omega (arith, from-base c .0, c .before .before .before .before .good)
 
--- src/lib.rt:259:31
 sub-given-up : tie.Need-sub-given-up
 sub-given-up c = from-base c .0
 
--- src/lib.rt:259:31
 part-given-up-start : tie.Need-part-given-up-start
 part-given-up-start c = from-base c .0
 
--- src/lib.rt:259:31
 part-given-up-end : tie.Need-part-given-up-end
 part-given-up-end c = search needs
 
--- src/lib.rt:259:9
 given-up-requires : tie.Need-given-up-requires
 given-up-requires c κs = search needs
 
--- src/lib.rt:262:9
 returns-2 : tie.Need-returns-2
 returns-2 c =
     let a = c .before .before .before .before .before .before .before .args in (
@@ -95,23 +79,18 @@ returns-2 c =
         (c .before .given-up .result) (tells (c .before)) (c .if2 .taken)),
     )
 
--- src/lib.rt:264:22
 onward-requires : tie.Need-onward-requires
 onward-requires c κs = search needs
 
--- src/lib.rt:264:8
 adjoins-requires : tie.Need-adjoins-requires
 adjoins-requires c κs = search needs
 
--- src/lib.rt:265:80
 add-t19 : tie.Need-add-t19
 add-t19 c = record { fits = count-fits (c .before .before .before .before) }
 
--- src/lib.rt:265:80
 sub-t20 : tie.Need-sub-t20
 sub-t20 c = search needs
 
--- src/lib.rt:265:9
 returns-3 : tie.Need-returns-3
 returns-3 c =
     let a = c .before .before .before .before .before .before .before .before .before .before .args in (
@@ -122,11 +101,9 @@ returns-3 c =
         (c .before .before .before .before .given-up .result) (tells (c .before .before .before .before)) (c .before .before .before .if2 .left) (rw (seen, ← c .before .before .onward .ensures) (sym (c .before .adjoins .ensures) ∙ c .if3 .taken))),
     )
 
--- src/lib.rt:267:69
 add-t14 : tie.Need-add-t14
 add-t14 c = record { fits = count-fits (c .before .before .before .before) }
 
--- src/lib.rt:251:1
 returns-4 : tie.Need-returns-4
 returns-4 c =
     let a = c .before .before .before .before .before .before .before .before .before .before .args in (

@@ -1,46 +1,27 @@
+-- `status`: the tests are the machine's, in its order; a written frame is the writer's for the carried runs; a refused one changes nothing. Assumes nothing.
 use Rattle.keeper.proofs.Unique.{octets-not}
-use lib.Seq.{length-take-le}
-use Rattle.keeper.proofs.Arrays.{stored-state}
-use mathlib.Core.Bool.{true, false}
+use Rattle.keeper.proofs.Arrays.{stored-state, HeldSizes, ListedSizes, held-count, listed-count, count-held, count-listed, starts-listed}
 use lib.Dec.{ltb}
-use lib.ListN.{length, length-take}
+use lib.ListN.{length, length-take, take, drop}
 use Rattle.layout.specs.Basics.{_and_}
-use Rattle.layout.specs.Frames.{Status, Written, rangesOf, modulus, mostRanges}
-use Rattle.bearer.specs.Bearer.{mostRuns, mostRecords, isLong}
+use Rattle.layout.specs.Frames.{Status, rangesOf, mostRanges}
+use Rattle.bearer.specs.Bearer.{mostRuns, mostRecords}
 use Rattle.bearer.specs.Keeper.{Keeper, mayGo, letGo, statusNow, reportedAs, reportedState, status}
-use Rattle.writer.specs.Answers.{statusOf, left}
-use Rattle.keeper.specs.View.{lengthIn, keeperIn, recordsOf}
+use Rattle.writer.specs.Answers.{left}
+use Rattle.keeper.specs.View.{keeperIn, recordsOf}
 use Rattle.keeper.specs.Plans.{wordsIn, goneOf}
 use Rattle.keeper.specs.declared.Words.{Words}
 use Rattle.keeper.specs.declared.Gone.{Gone}
-use Rattle.keeper.proofs.Arrays.{HeldSizes, ListedSizes, held-count, listed-count, count-held, count-listed, starts-listed}
 use Rattle.keeper.proofs.Ranges.{ranges-take}
 use Rattle.keeper.proofs.Records.{records-take}
 use Rattle.keeper.proofs.Letting.{run-within}
 use Rattle.keeper.proofs.Reporting.{closed-status, left-out, written, take-both, drop-both}
-use Prim.Native.Nat.{ℕ, zero, suc, _+_, _-_, _*_, _/_, _%_, _^_, _≤_, _<_, min, max}
+use Prim.Native.Nat.{ℕ, _-_, _≤_, min}
 use native.Mathlib.Omega.{arith}
 use mathlib.Core.Path.{_≡_, refl, sym, _∙_, ap}
-use lib.ListN.{length, getD, set, take, drop}
-use mathlib.Core.List.{List, [], _∷_, _++_, map}
 use borrow.Author.Needs.{needs}
 use Rattle.keeper.proofs.status.Statement.{statement}
 use Rattle.keeper.proofs.status.Tie as tie
-use Rattle.keeper.proofs.status.Reads as reads
-use Rattle.keeper.proofs.status.Lts as lts
-use Rattle.keeper.proofs.drop_records.Reads as drop-records-reads
-use Rattle.keeper.proofs.drop_runs.Reads as drop-runs-reads
-use Rattle.keeper.proofs.first.Reads as first-reads
-use Rattle.keeper.proofs.flag.Reads as flag-reads
-use Rattle.keeper.proofs.held_in.Reads as held-in-reads
-use Rattle.keeper.proofs.is_long.Reads as is-long-reads
-use Rattle.keeper.proofs.least.Reads as least-reads
-use Rattle.keeper.proofs.leaves_out.Reads as leaves-out-reads
-use Rattle.keeper.proofs.let_go.Reads as let-go-reads
-use Rattle.keeper.proofs.listed_in.Reads as listed-in-reads
-use Rattle.keeper.proofs.read.Reads as read-reads
-use Rattle.keeper.proofs.store.Reads as store-reads
-use Rattle.writer.proofs.write_status.Reads as write-status-reads
 
 -- {h
 -- the state before
@@ -141,57 +122,45 @@ records-left c =
     rw few (c .drop-records .ensures ∙ rw (gone-is (c .before .before .before .before .before .before .before .before .before .before .before .before .before .before .before .before .before .before .before .before .before), held-is (c .before .before .before .before .before .before .before .before .before .before .before .before .before .before .before .before .before .before .before .before .before .before .before .before .before .before .before .before .before .before .before .before .before .before .before)))
 -- h}
 
--- src/lib.rt:109:9
 read-requires : tie.Need-read-requires
 read-requires c κs = search needs
 
--- src/lib.rt:111:9
 returns : tie.Need-returns
 returns c =
     let a = c .before .before .before .before .before .args in
     let k = state (c .before .before .before .before .before) in
     (sym (closed-status (words (c .before .before .before .before .before)) (k .runs) (k .records) (a .desired) (a .minimum) (a .last) (a .dst .now) (λ (e : words (c .before .before .before .before .before) .closed ≡ 0). c .if1 .taken (ap (λ (w : Words). w .closed) (c .before .before .read .ensures) ∙ e))), λ n e. refl)
 
--- src/lib.rt:113:9
 listed-in-requires : tie.Need-listed-in-requires
 listed-in-requires c κs = search needs
 
--- src/lib.rt:114:8
 leaves-out-requires : tie.Need-leaves-out-requires
 leaves-out-requires c κs = search needs
 
--- src/lib.rt:115:9
 returns-2 : tie.Need-returns-2
 returns-2 c =
     let a = c .before .before .before .before .before .before .before .before .before .before .before .before .args in
     let k = state (c .before .before .before .before .before .before .before .before .before .before .before .before) in
     (sym (left-out (words (c .before .before .before .before .before .before .before .before .before .before .before .before)) (k .runs) (k .records) (a .desired) (a .minimum) (a .last) (a .dst .now) (opened (c .before .before .before .before .before .before .before)) (sym (leaves (c .before)) ∙ c .if2 .taken)), λ n e. refl)
 
--- src/lib.rt:117:9
 held-in-requires : tie.Need-held-in-requires
 held-in-requires c κs = search needs
 
--- src/lib.rt:118:9
 least-requires : tie.Need-least-requires
 least-requires c κs = search needs
 
--- src/lib.rt:119:26
 first-requires : tie.Need-first-requires
 first-requires c κs = search needs
 
--- src/lib.rt:119:48
 first-requires-2 : tie.Need-first-requires-2
 first-requires-2 c κs = search needs
 
--- src/lib.rt:119:68
 first-requires-3 : tie.Need-first-requires-3
 first-requires-3 c κs = search needs
 
--- src/lib.rt:119:88
 first-requires-4 : tie.Need-first-requires-4
 first-requires-4 c κs = search needs
 
--- src/lib.rt:119:9
 let-go-requires : tie.Need-let-go-requires
 let-go-requires c κs =
     let a = c .before .before .before .before .before .before .before .before .before .before .before .before .before .before .before .before .before .before .before .before .before .before .before .before .before .before .before .before .before .before .before .before .args in
@@ -201,79 +170,61 @@ let-go-requires c κs =
     rw (c .before .before .before .before .before .before .before .before .before .first .ensures, c .before .before .before .before .before .before .first2 .ensures, c .before .before .before .first3 .ensures)
     (omega (arith, z, length-take n (a .numbers .now), length-take n (a .pdcps .now)), omega (arith, z, length-take n (a .numbers .now), length-take n (a .marks .now)))
 
--- src/lib.rt:121:15
 is-long-requires : tie.Need-is-long-requires
 is-long-requires c κs = search needs
 
--- src/lib.rt:127:38
 first-requires-5 : tie.Need-first-requires-5
 first-requires-5 c κs = search needs
 
--- src/lib.rt:127:62
 first-requires-6 : tie.Need-first-requires-6
 first-requires-6 c κs = search needs
 
--- src/lib.rt:127:11
 write-status-requires : tie.Need-write-status-requires
 write-status-requires c κs = search needs
 
--- src/lib.rt:128:32
 enum-known-n : tie.Need-enum-known-n
 enum-known-n c = search needs
 
--- src/lib.rt:129:31
 enum-known-n-2 : tie.Need-enum-known-n-2
 enum-known-n-2 c = search needs
 
--- src/lib.rt:131:13
 drop-runs-requires : tie.Need-drop-runs-requires
 drop-runs-requires c κs =
     let z = run-sizes (c .before .before .before .before .before .before .before .before .before .before .before .before .before .before .before .before .before .before .before .before .before .before .before .before .before .before .before .before .before .before .before .before .before .before .before .before .before .before .before) in
     (omega (arith, c .before .before .before .before .before .before .before .before .before .before .before .before .before .before .before .before .before .before .before .before .before .before .before .before .before .before .before .before .before .least .ensures), omega (arith, z, listed-is (c .before .before .before .before .before .before .before .before .before .before .before .before .before .before .before .before .before .before .before .before .before .before .before .before .before .before .before .before .before .before .before .before .before .before .before .before .before .before .before)), omega (arith, z, listed-is (c .before .before .before .before .before .before .before .before .before .before .before .before .before .before .before .before .before .before .before .before .before .before .before .before .before .before .before .before .before .before .before .before .before .before .before .before .before .before .before)))
 
--- src/lib.rt:132:13
 drop-records-requires : tie.Need-drop-records-requires
 drop-records-requires c κs =
     let z = held-sizes (c .before .before .before .before .before .before .before .before .before .before .before .before .before .before .before .before .before .before .before .before .before .before .before .before .before .before .before .before .before .before .before .before .before .before) in
     (go-within (c .before .before .before .before .before .before .before .before .before .before .before .before .before .before .before .before .before .before .before .before), omega (arith, z, held-is (c .before .before .before .before .before .before .before .before .before .before .before .before .before .before .before .before .before .before .before .before .before .before .before .before .before .before .before .before .before .before .before .before .before .before)), omega (arith, z, held-is (c .before .before .before .before .before .before .before .before .before .before .before .before .before .before .before .before .before .before .before .before .before .before .before .before .before .before .before .before .before .before .before .before .before .before)), omega (arith, z, held-is (c .before .before .before .before .before .before .before .before .before .before .before .before .before .before .before .before .before .before .before .before .before .before .before .before .before .before .before .before .before .before .before .before .before .before)))
 
--- src/lib.rt:139:29
 flag-requires : tie.Need-flag-requires
 flag-requires c κs = search needs
 
--- src/lib.rt:140:28
 sub-t69 : tie.Need-sub-t69
 sub-t69 c = omega (arith, c .before .before .before .before .before .before .before .before .before .before .before .before .before .before .before .before .before .before .before .before .before .before .before .before .before .before .before .before .before .before .before .before .before .before .before .before .least .ensures)
 
--- src/lib.rt:140:27
 cast-t70 : tie.Need-cast-t70
 cast-t70 c = omega (arith, listed-is (c .before .before .before .before .before .before .before .before .before .before .before .before .before .before .before .before .before .before .before .before .before .before .before .before .before .before .before .before .before .before .before .before .before .before .before .before .before .before .before .before .before .before .before .before .before .before))
 
--- src/lib.rt:141:31
 sub-t71 : tie.Need-sub-t71
 sub-t71 c = go-within (c .before .before .before .before .before .before .before .before .before .before .before .before .before .before .before .before .before .before .before .before .before .before .before)
 
--- src/lib.rt:141:30
 cast-t72 : tie.Need-cast-t72
 cast-t72 c = omega (arith, held-is (c .before .before .before .before .before .before .before .before .before .before .before .before .before .before .before .before .before .before .before .before .before .before .before .before .before .before .before .before .before .before .before .before .before .before .before .before .before))
 
--- src/lib.rt:133:13
 store-requires : tie.Need-store-requires
 store-requires c κs = search needs
 
--- src/lib.rt:92:1
 same-length : tie.Need-same-length
 same-length c = search needs
 
--- src/lib.rt:92:1
 returns-3 : tie.Need-returns-3
 returns-3 c = (sym (rw (c .before .n .given .1) at (answered (c .before .before .before .before .before))), λ n e. refl)
 
--- src/lib.rt:92:1
 same-length-2 : tie.Need-same-length-2
 same-length-2 c = search needs
 
--- src/lib.rt:92:1
 returns-4 : tie.Need-returns-4
 returns-4 c =
     let a = c .before .before .before .before .before .before .before .before .before .before .before .before .before .before .before .before .before .before .before .before .before .before .before .before .before .before .before .before .before .before .before .before .before .before .before .before .before .before .before .before .before .before .before .before .before .before .before .before .before .before .before .before .before .before .before .before .before .args in

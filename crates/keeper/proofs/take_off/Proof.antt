@@ -1,34 +1,25 @@
+-- `take_off`: among the numbers held the first k are gone; past them nothing counts. Assumes nothing.
 use lib.Seq.{length-take-le}
 use Rattle.keeper.proofs.Parts.{taken-off}
-use Prim.Native.Nat.{ℕ, zero, suc, _+_, _-_, _*_, _/_, _%_, _^_, _≤_, _<_, min, max}
+use Prim.Native.Nat.{_-_}
 use native.Mathlib.Omega.{arith}
-use mathlib.Core.Path.{_≡_, refl, sym, _∙_, ap}
-use lib.ListN.{length, getD, set, take, drop}
-use mathlib.Core.List.{List, [], _∷_, _++_, map}
+use mathlib.Core.Path.{sym}
 use borrow.Author.Needs.{needs}
 use Rattle.keeper.proofs.take_off.Statement.{statement}
 use Rattle.keeper.proofs.take_off.Tie as tie
-use Rattle.keeper.proofs.take_off.Reads as reads
-use Rattle.keeper.proofs.take_off.Lts as lts
-use Rattle.shelf.proofs.drop_front.Reads as drop-front-reads
 
--- src/lib.rt:644:23
 slice-relend-prefix-drop-front : tie.Need-slice-relend-prefix-drop-front
 slice-relend-prefix-drop-front c = search needs
 
--- src/lib.rt:644:23
 slice-aggregate-drop-front : tie.Need-slice-aggregate-drop-front
 slice-aggregate-drop-front c = sym (length-take-le (c .before .before .args .held) (c .before .before .args .a .now) (omega arith))
 
--- src/lib.rt:644:5
 drop-front-requires : tie.Need-drop-front-requires
 drop-front-requires c κs = search needs
 
--- src/lib.rt:640:1
 same-length : tie.Need-same-length
 same-length c = search needs
 
--- src/lib.rt:640:1
 returns : tie.Need-returns
 returns c =
     let a = c .before .before .before .before .before .args in

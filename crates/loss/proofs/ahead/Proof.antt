@@ -1,3 +1,4 @@
+-- `ahead`: 24 bits are the long form's circle, 16 the short one's. Assumes nothing.
 use borrow.Author.Needs.{needs}
 use Rattle.loss.proofs.ahead.Statement.{statement}
 use Rattle.loss.proofs.ahead.Tie as tie

@@ -1,3 +1,4 @@
+-- `behind`: by the test whether the number lies before base. Assumes nothing.
 use borrow.Author.Needs.{needs}
 use Rattle.loss.proofs.behind.Statement.{statement}
 use Rattle.loss.proofs.behind.Tie as tie

@@ -1,3 +1,4 @@
+-- `first_behind`: of the first number, where there is one. Assumes nothing.
 use mathlib.Core.Path.{sym, _∙_}
 use native.Mathlib.Omega.{arith}
 use borrow.Author.Needs.{needs}

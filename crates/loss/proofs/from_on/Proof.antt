@@ -1,3 +1,4 @@
+-- `from_on`: both tests, one after the other. Assumes nothing.
 use borrow.Author.Needs.{needs}
 use borrow.Author.Tests.{lt-leb, le-leb}
 use Rattle.loss.proofs.from_on.Statement.{statement}

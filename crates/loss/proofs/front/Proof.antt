@@ -1,3 +1,4 @@
+-- `front`: from the back, every number passed lies far enough forward. Assumes nothing.
 use mathlib.Core.Path.{_≡_, sym, _∙_}
 use mathlib.Core.Bool.{true, false}
 use Prim.Native.Nat.{suc, _-_, _≤_}

@@ -1,3 +1,4 @@
+-- `gap_end`: by the test whether the distance is outside. Assumes nothing.
 use borrow.Author.Needs.{needs}
 use Rattle.loss.proofs.gap_end.Statement.{statement}
 use Rattle.loss.proofs.gap_end.Tie as tie

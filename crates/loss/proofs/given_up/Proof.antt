@@ -1,3 +1,4 @@
+-- `given_up`: what is told so far, with what the numbers that are left leave open, is what all of them leave open. Assumes nothing.
 use mathlib.Core.Path.{_≡_, sym, _∙_}
 use Prim.Native.Nat.{_-_, _≤_}
 use native.Mathlib.Omega.{arith}

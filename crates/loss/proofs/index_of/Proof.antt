@@ -1,3 +1,4 @@
+-- `index_of`: no number passed is the one that is looked for. Assumes nothing.
 use mathlib.Core.Path.{_≡_}
 use Prim.Native.Nat.{_+_, _-_, _≤_}
 use native.Mathlib.Omega.{arith}

@@ -1,3 +1,4 @@
+-- `is_before`: half the circle or more. Assumes nothing.
 use borrow.Author.Needs.{needs}
 use Rattle.loss.proofs.is_before.Statement.{statement}
 use Rattle.loss.proofs.is_before.Tie as tie

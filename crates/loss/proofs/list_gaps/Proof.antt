@@ -1,3 +1,4 @@
+-- `list_gaps`: the runs written so far, with those of the numbers that are left, are the runs of all. Assumes nothing.
 use mathlib.Core.Path.{_≡_, sym, _∙_}
 use mathlib.Core.List.{[]}
 use Prim.Native.Nat.{_+_, _-_, _^_, _≤_, _<_}

@@ -1,3 +1,4 @@
+-- `lowest`: the lowest so far, raised by the numbers that are left, is the lowest of all. Assumes nothing.
 use mathlib.Core.Path.{_≡_, sym, _∙_}
 use Prim.Native.Nat.{_-_, _≤_}
 use native.Mathlib.Omega.{arith}

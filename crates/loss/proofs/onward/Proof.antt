@@ -1,3 +1,4 @@
+-- `onward`: a mask reduces a sum to the circle, and so does a wrapping one. Assumes nothing.
 use Prim.Native.Nat.{_+_}
 use native.Mathlib.Omega.{arith}
 use borrow.Author.Needs.{needs}

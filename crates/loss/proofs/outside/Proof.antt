@@ -1,3 +1,4 @@
+-- `outside`: both tests, one after the other. Assumes nothing.
 use borrow.Author.Tests.{lt-ltb, le-ltb}
 use Rattle.loss.proofs.outside.Statement.{statement}
 use Rattle.loss.proofs.outside.Tie as tie

@@ -1,3 +1,4 @@
+-- `past`: by the test whether the distance is outside. Assumes nothing.
 use mathlib.Core.Path.{sym, _∙_}
 use native.Mathlib.Omega.{arith}
 use native.Mathlib.Numerals.{add-one}

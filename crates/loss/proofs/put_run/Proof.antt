@@ -1,3 +1,4 @@
+-- `put_run`: both ends of the run, in the same slot. Assumes nothing.
 use mathlib.Core.Path.{refl, _∙_}
 use native.Mathlib.Nat.{add-zero}
 use borrow.Author.Needs.{needs}

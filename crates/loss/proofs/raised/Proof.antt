@@ -1,3 +1,4 @@
+-- `raised`: by the test whether the number lies at the lowest distance. Assumes nothing.
 use native.Mathlib.Numerals.{add-one}
 use borrow.Author.Needs.{needs}
 use borrow.Author.Tests.{eq-eqb, ne-eqb}

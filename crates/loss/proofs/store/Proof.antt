@@ -1,3 +1,4 @@
+-- `store`: in a slot that is there. Assumes nothing.
 use mathlib.Core.Path.{sym}
 use lib.Seq.{set-out}
 use borrow.Author.Needs.{needs}

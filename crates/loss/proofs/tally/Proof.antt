@@ -1,3 +1,4 @@
+-- `tally`: by the test whether the gap holds a number. Assumes nothing.
 use borrow.Author.Needs.{needs}
 use borrow.Author.Tests.{lt-ltb, le-ltb, eq-eqb, ne-eqb}
 use Rattle.loss.proofs.tally.Statement.{statement}

@@ -1,3 +1,4 @@
+-- `top_of`: of the last number, where there is one that is not before base. Assumes nothing.
 use mathlib.Core.Path.{_≡_, sym, _∙_}
 use Prim.Native.Nat.{_+_, _-_}
 use native.Mathlib.Omega.{arith}

@@ -1,3 +1,4 @@
+-- `drop_front`: what was moved so far is in its place, and what is to be moved is untouched. Assumes nothing.
 use mathlib.Core.Path.{_≡_, _∙_}
 use Prim.Native.Nat.{_+_, _-_, _≤_}
 use native.Mathlib.Omega.{arith}

@@ -1,3 +1,4 @@
+-- `insert`: what was moved so far is one up, and what is to be moved is untouched. Assumes nothing.
 use mathlib.Core.Path.{_≡_, refl, sym}
 use mathlib.Core.List.{[], _∷_}
 use Prim.Native.Nat.{_≤_, _<_}
