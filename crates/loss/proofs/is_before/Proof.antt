@@ -10,7 +10,7 @@ ahead-requires : tie.Need-ahead-requires
 ahead-requires c κs = search needs
 
 returns : tie.Need-returns
-returns c = cc (c .before .half .ensures, c .ahead .ensures)
+returns c = rw (c .before .half .ensures, c .ahead .ensures)
 
 pub is-before-spec : {M : Type 1} → statement M
 is-before-spec = tie.close (tie.spec half-requires ahead-requires returns)
