@@ -1,0 +1,365 @@
+// The C boundary of the codec and of the secondary's loss keeper: one function a call, on numbers, slices and arrays of
+// numbers. An answer from 0 on is document 01's, one below 0 is minus the number of a refusal. A flag or a form is a number,
+// 0 or not 0, since a `bool` that C made is undefined where its octet is neither 0 nor 1. include/x2u.h has C's side.
+ghost use mathlib.Core.Path.{_≡_};
+ghost use mathlib.Core.List.{[], _∷_};
+ghost use Prim.Native.Nat.{ℕ, _^_, _<_};
+ghost use lib.IntN.{pos, negsuc};
+ghost use lib.ListN.{length};
+ghost use Rattle.layout.specs.Basics.{bit};
+ghost use Rattle.layout.specs.Frames.{dataType, statusType, rangesOf, readFrame, writeData, writeStatus};
+ghost use Rattle.bearer.specs.Keeper.{openKeeper, arrive, expire, confirm, status};
+ghost use Rattle.keeper.specs.View.{isSet, keeperIn, opensInto, arrays};
+ghost use Rattle.x2u.specs.Boundary.{minus, leaves, writes, counts, settles, reports, reads, cursorIn, begins, stepIn, steps};
+
+const MOST_OCTETS: usize = 1018; // the greatest length of a frame
+
+// ---- reading
+
+// Reads a frame: its type, 0 to 3. Of data the first field is the number; of a status they are the highest PDCP number,
+// the desired size, the minimum size, Final as 0 or 1, and how many ranges. Every other field is 0.
+#[no_mangle]
+pub extern "C" fn x2u_read(frame: &[u8], fields: &mut [u32; 6]) -> i64
+    ensures { λ r. ⌜ leaves r (now (fields .exit)) ≡ reads (now (fields .entry)) (readFrame (now (frame .entry))) ⌝ }
+{
+    match reader::read(frame) {
+        reader::Frame::Data { long, number } => {
+            put_fields(fields, number, 0, 0, 0, 0);
+            data_type(long)
+        }
+        reader::Frame::Status(head) => {
+            put_fields(
+                fields,
+                head.highest,
+                head.desired,
+                head.minimum,
+                flag(head.last),
+                head.count,
+            );
+            status_type(head.long)
+        }
+        reader::Frame::Refused(n) => refused(n),
+    }
+}
+
+// Puts a cursor before the first range of a frame: how many ranges it has, which for data is none.
+#[no_mangle]
+pub extern "C" fn x2u_first_range(frame: &[u8], cursor: &mut [u32; 3]) -> i64
+    ensures { λ r. ⌜ leaves r (now (cursor .exit)) ≡ begins (now (cursor .entry)) (readFrame (now (frame .entry))) ⌝ }
+{
+    match reader::read(frame) {
+        reader::Frame::Data { long: _, number: _ } => {
+            put_cursor(cursor, 0, 0, 0);
+            0
+        }
+        reader::Frame::Status(head) => {
+            let at = reader::first_range(head);
+            put_cursor(cursor, flag(at.long), at.place as u32, at.left);
+            value(at.left)
+        }
+        reader::Frame::Refused(n) => refused(n),
+    }
+}
+
+// Takes the range at a cursor: 1, or 0 where none is left.
+#[no_mangle]
+pub extern "C" fn x2u_next_range(frame: &[u8], cursor: &mut [u32; 3], range: &mut [u32; 2]) -> i64
+    ensures { λ r. ⌜ leaves r ((now (cursor .exit)), (now (range .exit)))
+        ≡ steps (now (cursor .entry)) (now (range .entry)) (stepIn (now (frame .entry)) (cursorIn (now (cursor .entry)))) ⌝ }
+{
+    if MOST_OCTETS < frame.len() {
+        return 0;
+    }
+    let at = cursor_in(cursor);
+    match reader::next_range(frame, at) {
+        reader::Step::Range { start, end, rest } => {
+            put_cursor(cursor, flag(rest.long), rest.place as u32, rest.left);
+            put_range(range, start, end);
+            1
+        }
+        reader::Step::End => 0,
+    }
+}
+
+// ---- writing
+
+// Writes a data frame at the front of a buffer: how many octets it has.
+#[no_mangle]
+pub extern "C" fn x2u_write_data(long: u32, number: u32, dst: &mut [u8]) -> i64
+    ensures { λ r. ⌜ leaves r (now (dst .exit)) ≡ writes (writeData (isSet long) number (now (dst .entry))) ⌝ }
+{
+    match writer::write_data(is_set(long), number, dst) {
+        writer::Wrote::Octets(n) => octets(n),
+        writer::Wrote::Refused(n) => refused(n),
+    }
+}
+
+// Writes a status frame at the front of a buffer: how many octets it has. Range i is starts[i] to ends[i].
+#[no_mangle]
+pub extern "C" fn x2u_write_status(
+    long: u32,
+    last: u32,
+    highest: u32,
+    desired: u32,
+    minimum: u32,
+    starts: &[u32],
+    ends: &[u32],
+    dst: &mut [u8],
+) -> i64
+    ensures { λ r. ⌜ leaves r (now (dst .exit))
+        ≡ writes (writeStatus (record { long = isSet long; final = isSet last; highest = highest; desired = desired; minimum = minimum; ranges = rangesOf (now (starts .entry)) (now (ends .entry)) }) (now (dst .entry))) ⌝ }
+{
+    let head = writer::Head {
+        long: is_set(long),
+        last: is_set(last),
+        highest: highest,
+        desired: desired,
+        minimum: minimum,
+    };
+    match writer::write_status(head, starts, ends, dst) {
+        writer::Wrote::Octets(n) => octets(n),
+        writer::Wrote::Refused(n) => refused(n),
+    }
+}
+
+// ---- the keeper, whose state is six lent arrays
+
+// Opens the end: 0.
+#[no_mangle]
+pub extern "C" fn x2u_keeper_open(
+    numbers: &mut [u32; 512],
+    pdcps: &mut [u32; 512],
+    marks: &mut [u32; 512],
+    starts: &mut [u32; 256],
+    ends: &mut [u32; 256],
+    words: &mut [u32; 6],
+    length: u32,
+    number: u32,
+    pdcp: u32,
+) -> i64
+    ensures { λ r. ⌜ leaves r (keeperIn (now (numbers .exit)) (now (pdcps .exit)) (now (marks .exit)) (now (starts .exit)) (now (ends .exit)) (now (words .exit)))
+        ≡ settles (opensInto (keeperIn (now (numbers .entry)) (now (pdcps .entry)) (now (marks .entry)) (now (starts .entry)) (now (ends .entry)) (now (words .entry))) (openKeeper length number pdcp)) ⌝ }
+    ensures { λ r. ⌜ ((n : ℕ) → r ≡ negsuc n → arrays (now (numbers .exit)) (now (pdcps .exit)) (now (marks .exit)) (now (starts .exit)) (now (ends .exit)) (now (words .exit))
+        ≡ arrays (now (numbers .entry)) (now (pdcps .entry)) (now (marks .entry)) (now (starts .entry)) (now (ends .entry)) (now (words .entry))) ⌝ }
+{
+    match keeper::open(
+        numbers,
+        pdcps,
+        marks,
+        starts,
+        ends,
+        words,
+        length,
+        number,
+        pdcp,
+    ) {
+        keeper::Opened::Done => 0,
+        keeper::Opened::Refused(n) => refused(n),
+    }
+}
+
+// Arrival of a number and a PDCP number: how many numbers became lost.
+#[no_mangle]
+pub extern "C" fn x2u_keeper_arrive(
+    numbers: &mut [u32; 512],
+    pdcps: &mut [u32; 512],
+    marks: &mut [u32; 512],
+    starts: &mut [u32; 256],
+    ends: &mut [u32; 256],
+    words: &mut [u32; 6],
+    number: u32,
+    pdcp: u32,
+) -> i64
+    ensures { λ r. ⌜ leaves r (keeperIn (now (numbers .exit)) (now (pdcps .exit)) (now (marks .exit)) (now (starts .exit)) (now (ends .exit)) (now (words .exit)))
+        ≡ counts (arrive (keeperIn (now (numbers .entry)) (now (pdcps .entry)) (now (marks .entry)) (now (starts .entry)) (now (ends .entry)) (now (words .entry))) number pdcp) ⌝ }
+    ensures { λ r. ⌜ ((n : ℕ) → r ≡ negsuc n → arrays (now (numbers .exit)) (now (pdcps .exit)) (now (marks .exit)) (now (starts .exit)) (now (ends .exit)) (now (words .exit))
+        ≡ arrays (now (numbers .entry)) (now (pdcps .entry)) (now (marks .entry)) (now (starts .entry)) (now (ends .entry)) (now (words .entry))) ⌝ }
+{
+    match keeper::arrive(numbers, pdcps, marks, starts, ends, words, number, pdcp) {
+        keeper::Counted::Lost(n) => value(n),
+        keeper::Counted::Refused(n) => refused(n),
+    }
+}
+
+// Expiry: how many numbers became lost.
+#[no_mangle]
+pub extern "C" fn x2u_keeper_expire(
+    numbers: &mut [u32; 512],
+    pdcps: &mut [u32; 512],
+    marks: &mut [u32; 512],
+    starts: &mut [u32; 256],
+    ends: &mut [u32; 256],
+    words: &mut [u32; 6],
+) -> i64
+    ensures { λ r. ⌜ leaves r (keeperIn (now (numbers .exit)) (now (pdcps .exit)) (now (marks .exit)) (now (starts .exit)) (now (ends .exit)) (now (words .exit)))
+        ≡ counts (expire (keeperIn (now (numbers .entry)) (now (pdcps .entry)) (now (marks .entry)) (now (starts .entry)) (now (ends .entry)) (now (words .entry)))) ⌝ }
+    ensures { λ r. ⌜ ((n : ℕ) → r ≡ negsuc n → arrays (now (numbers .exit)) (now (pdcps .exit)) (now (marks .exit)) (now (starts .exit)) (now (ends .exit)) (now (words .exit))
+        ≡ arrays (now (numbers .entry)) (now (pdcps .entry)) (now (marks .entry)) (now (starts .entry)) (now (ends .entry)) (now (words .entry))) ⌝ }
+{
+    match keeper::expire(numbers, pdcps, marks, starts, ends, words) {
+        keeper::Counted::Lost(n) => value(n),
+        keeper::Counted::Refused(n) => refused(n),
+    }
+}
+
+// A number is confirmed: 0.
+#[no_mangle]
+pub extern "C" fn x2u_keeper_confirm(
+    numbers: &mut [u32; 512],
+    pdcps: &mut [u32; 512],
+    marks: &mut [u32; 512],
+    starts: &mut [u32; 256],
+    ends: &mut [u32; 256],
+    words: &mut [u32; 6],
+    number: u32,
+) -> i64
+    ensures { λ r. ⌜ leaves r (keeperIn (now (numbers .exit)) (now (pdcps .exit)) (now (marks .exit)) (now (starts .exit)) (now (ends .exit)) (now (words .exit)))
+        ≡ settles (confirm (keeperIn (now (numbers .entry)) (now (pdcps .entry)) (now (marks .entry)) (now (starts .entry)) (now (ends .entry)) (now (words .entry))) number) ⌝ }
+    ensures { λ r. ⌜ ((n : ℕ) → r ≡ negsuc n → arrays (now (numbers .exit)) (now (pdcps .exit)) (now (marks .exit)) (now (starts .exit)) (now (ends .exit)) (now (words .exit))
+        ≡ arrays (now (numbers .entry)) (now (pdcps .entry)) (now (marks .entry)) (now (starts .entry)) (now (ends .entry)) (now (words .entry))) ⌝ }
+{
+    match keeper::confirm(numbers, pdcps, marks, starts, ends, words, number) {
+        keeper::Confirmed::Done => 0,
+        keeper::Confirmed::Refused(n) => refused(n),
+    }
+}
+
+// A status frame at the front of a buffer: how many octets it has.
+#[no_mangle]
+pub extern "C" fn x2u_keeper_status(
+    numbers: &mut [u32; 512],
+    pdcps: &mut [u32; 512],
+    marks: &mut [u32; 512],
+    starts: &mut [u32; 256],
+    ends: &mut [u32; 256],
+    words: &mut [u32; 6],
+    desired: u32,
+    minimum: u32,
+    last: u32,
+    dst: &mut [u8],
+) -> i64
+    ensures { λ r. ⌜ leaves r ((keeperIn (now (numbers .exit)) (now (pdcps .exit)) (now (marks .exit)) (now (starts .exit)) (now (ends .exit)) (now (words .exit))), (now (dst .exit)))
+        ≡ reports (status (keeperIn (now (numbers .entry)) (now (pdcps .entry)) (now (marks .entry)) (now (starts .entry)) (now (ends .entry)) (now (words .entry))) desired minimum (isSet last) (now (dst .entry))) ⌝ }
+    ensures { λ r. ⌜ ((n : ℕ) → r ≡ negsuc n → arrays (now (numbers .exit)) (now (pdcps .exit)) (now (marks .exit)) (now (starts .exit)) (now (ends .exit)) (now (words .exit))
+        ≡ arrays (now (numbers .entry)) (now (pdcps .entry)) (now (marks .entry)) (now (starts .entry)) (now (ends .entry)) (now (words .entry))) ⌝ }
+{
+    match keeper::status(
+        numbers,
+        pdcps,
+        marks,
+        starts,
+        ends,
+        words,
+        desired,
+        minimum,
+        is_set(last),
+        dst,
+    ) {
+        keeper::Frame::Octets(n) => octets(n),
+        keeper::Frame::Refused(n) => refused(n),
+    }
+}
+
+// ---- answers
+
+// A refusal n is answered as minus n.
+fn refused(n: u32) -> i64
+    ensures { λ r. ⌜ r ≡ minus n ⌝ }
+{
+    0 - (n as i64)
+}
+
+// A number, as an answer.
+fn value(n: u32) -> i64
+    ensures { λ r. ⌜ r ≡ pos n ⌝ }
+{
+    n as i64
+}
+
+// A frame's length, as an answer.
+fn octets(n: usize) -> i64
+    requires { ⌜ n < 2 ^ 63 ⌝ }
+    ensures { λ r. ⌜ r ≡ pos n ⌝ }
+{
+    n as i64
+}
+
+// The type of a data frame.
+fn data_type(long: bool) -> i64
+    ensures { λ r. ⌜ r ≡ pos (dataType long) ⌝ }
+{
+    if long { 3 } else { 0 }
+}
+
+// The type of a status frame.
+fn status_type(long: bool) -> i64
+    ensures { λ r. ⌜ r ≡ pos (statusType long) ⌝ }
+{
+    if long { 2 } else { 1 }
+}
+
+// ---- words
+
+// A number that isn't 0 is yes.
+fn is_set(word: u32) -> bool
+    ensures { λ r. ⌜ r ≡ isSet word ⌝ }
+{
+    word != 0
+}
+
+// A number for yes or no.
+fn flag(yes: bool) -> u32
+    ensures { λ r. ⌜ r ≡ bit yes ⌝ }
+{
+    if yes { 1 } else { 0 }
+}
+
+// All six fields are written; the last is kept for later.
+fn put_fields(fields: &mut [u32], a: u32, b: u32, c: u32, d: u32, e: u32)
+    requires { ⌜ length (now fields) ≡ 6 ⌝ }
+    ensures { λ _. ⌜ now (fields .exit) ≡ a ∷ b ∷ c ∷ d ∷ e ∷ 0 ∷ [] ⌝ }
+{
+    fields[0] = a;
+    fields[1] = b;
+    fields[2] = c;
+    fields[3] = d;
+    fields[4] = e;
+    fields[5] = 0;
+}
+
+// All three words of a cursor are written.
+fn put_cursor(cursor: &mut [u32], long: u32, place: u32, left: u32)
+    requires { ⌜ length (now cursor) ≡ 3 ⌝ }
+    ensures { λ _. ⌜ now (cursor .exit) ≡ long ∷ place ∷ left ∷ [] ⌝ }
+{
+    cursor[0] = long;
+    cursor[1] = place;
+    cursor[2] = left;
+}
+
+// Both ends of a range are written.
+fn put_range(range: &mut [u32], start: u32, end: u32)
+    requires { ⌜ length (now range) ≡ 2 ⌝ }
+    ensures { λ _. ⌜ now (range .exit) ≡ start ∷ end ∷ [] ⌝ }
+{
+    range[0] = start;
+    range[1] = end;
+}
+
+// A place of 32 bits.
+fn wide(place: u32) -> usize
+    ensures { λ r. ⌜ r ≡ place ⌝ }
+{
+    place as usize
+}
+
+// The cursor as it stands.
+fn cursor_in(cursor: &[u32; 3]) -> reader::Cursor
+    ensures { λ r. ⌜ r ≡ cursorIn (now (cursor .entry)) ⌝ }
+{
+    reader::Cursor {
+        long: is_set(cursor[0]),
+        place: wide(cursor[1]),
+        left: cursor[2],
+    }
+}
