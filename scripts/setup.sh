@@ -2,7 +2,9 @@
 # Installs what the project needs from Debian's packages, where it is missing. The Rattle kit, gcc, cargo and rustc are
 # taken to be there.
 set -eu
-needed=(librust-proptest-dev librust-criterion-dev)
+needed=(librust-proptest-dev librust-criterion-dev g++)
+# The archive for C is x86-64's: elsewhere its tests are compiled across, and run under the kit's emulator.
+[ "$(uname -m)" = x86_64 ] || needed+=(gcc-x86-64-linux-gnu libc6-dev-amd64-cross)
 missing=()
 for p in "${needed[@]}"; do
   dpkg-query -W -f='${Status}' "$p" 2>/dev/null | grep -q 'ok installed' || missing+=("$p")
