@@ -1,7 +1,10 @@
 -- Parts of the lister's texts, as they are laid one after another.
 -- Assumes nothing.
 use mathlib.Core.List.{List, [], _∷_, _++_}
-use Prim.Native.Nat.{ℕ}
+use Prim.Native.Nat.{ℕ, _+_}
+use lib.Dec.{leb}
+use lib.ListN.{length}
+use Rattle.layout.specs.Basics.{if_then_else_}
 use Rattle.layout.specs.Frames.{Range}
 use Rattle.listing.specs.Listing.{tab, comma, decimal, rangeText}
 
@@ -18,3 +21,7 @@ tabbed (n ∷ ns) = marked n tab ++ tabbed ns
 abbrev pub moreText : List Range → List ℕ
 moreText [] = []
 moreText (r ∷ rs) = comma ∷ (rangeText r ++ moreText rs)
+
+-- a text at a place of a buffer where it fits, and else nothing
+abbrev pub fitting : List ℕ → ℕ → List ℕ → List ℕ
+fitting d at t = if leb (at + length t) (length d) then t else []

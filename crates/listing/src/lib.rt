@@ -4,6 +4,7 @@
 ghost use mathlib.Core.Path.{_≡_};
 ghost use mathlib.Core.List.{_++_};
 ghost use Prim.Native.Nat.{suc, _+_, _-_, _*_, _≤_, _<_, min};
+ghost use lib.Dec.{leb};
 ghost use lib.ListN.{length, getD, take};
 ghost use Rattle.layout.specs.Basics.{bit};
 ghost use Rattle.layout.specs.Frames.{dataType, statusType, data-of, refuse, readFrame};
@@ -12,7 +13,7 @@ ghost use Rattle.reader.specs.declared.Frame.the-variants.{Status};
 ghost use Rattle.listing.specs.Listing.{among, digitOf, octetOf, mostDigits, decimal, rangeText, rangesText, answerTo};
 ghost use Rattle.listing.specs.Feeding.{decodedOf, decodedInto, roomy, answerIn, frameIn, kept, feeding, lastIn, leaving, leftBy, LineEnd, Onward};
 ghost use Rattle.writer.specs.Laid.{Room, Laid};
-ghost use Rattle.listing.specs.Texts.{marked, tabbed, moreText};
+ghost use Rattle.listing.specs.Texts.{marked, tabbed, moreText, fitting};
 
 const LINE_FEED: u8 = b'\n';
 
@@ -166,6 +167,36 @@ fn put_decimal(n: u32, out: &mut [u8], at: usize) -> usize
     end
 }
 
+// Whether n octets from a place on lie within a size.
+pub fn fits(size: usize, at: usize, n: usize) -> bool
+    ensures { λ r. ⌜ r ≡ leb (at + n) size ⌝ }
+{
+    if size < n {
+        return false;
+    }
+    at <= size - n
+}
+
+// A text where there is room for it, for callers of any crate. Without the room nothing changes.
+pub fn lay_text(text: &[u8], out: &mut [u8], at: usize) -> usize
+    ensures { λ r. ⌜ Laid (now (out .entry)) at (fitting (now (out .entry)) at (now (text .entry))) r (now (out .exit)) ⌝ }
+{
+    if !fits(out.len(), at, text.len()) {
+        return at;
+    }
+    put_text(text, out, at)
+}
+
+// A number in decimal where there is room for it, for callers of any crate. Without the room nothing changes.
+pub fn lay_decimal(n: u32, out: &mut [u8], at: usize) -> usize
+    ensures { λ r. ⌜ Laid (now (out .entry)) at (fitting (now (out .entry)) at (decimal n)) r (now (out .exit)) ⌝ }
+{
+    if !fits(out.len(), at, digits_of(n)) {
+        return at;
+    }
+    put_decimal(n, out, at)
+}
+
 // A number in decimal with a mark behind it.
 fn put_marked(n: u32, mark: u8, out: &mut [u8], at: usize) -> usize
     requires { ⌜ Room (now out) at (length (marked n mark)) ⌝ }
@@ -311,10 +342,7 @@ fn put_front(frame: &[u8], n: usize, out: &mut [u8], at: usize) -> usize
 pub fn has_room(size: usize, at: usize) -> bool
     ensures { λ r. ⌜ r ≡ roomy (size - at) ⌝ }
 {
-    if size < MOST_TEXT {
-        return false;
-    }
-    at <= size - MOST_TEXT
+    fits(size, at, MOST_TEXT)
 }
 
 // The answer to a line, at a place with room for any. Without the room nothing changes.
@@ -332,7 +360,7 @@ pub fn answer(line: &[u8], frame: &mut [u8; 1018], out: &mut [u8], at: usize) ->
 }
 
 // The place of the first line feed of a block, or the block's length.
-fn line_end(block: &[u8]) -> usize
+pub fn line_end(block: &[u8]) -> usize
     ensures { λ r. ⌜ LineEnd (now (block .entry)) r ⌝ }
 {
     let mut i = 0;

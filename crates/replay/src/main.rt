@@ -1,0 +1,199 @@
+// Plays the calls of standard input on both ends of one bearer, one call a line, and prints their answers. All but reading
+// and writing is the crate replaying's.
+ghost use mathlib.Core.Path.{_≡_};
+ghost use Prim.Native.Nat.{_+_, _≤_, _<_};
+ghost use lib.ListN.{length};
+use ledger::Ledger;
+use libc::STDIN_FILENO;
+use libc::STDOUT_FILENO;
+
+// What one read leaves to the next: how much of an unfinished line is held, the place of the output's next answer, whether
+// the ends are open, the master's end, and whether to read on.
+struct State {
+    held: usize,
+    at: usize,
+    opened: bool,
+    ledger: Ledger,
+    more: bool,
+}
+
+// The place of the output's next answer, and whether what stood there before is written out.
+struct Next {
+    at: usize,
+    written: bool,
+}
+
+// Writes the output out if it has no room for any answer, and answers the place of the next one.
+fn next_place(out: &[u8], at: usize) -> Next
+    requires { ⌜ (18432 ≤ length (now out)) × (at ≤ length (now out)) ⌝ }
+    ensures { λ r. ⌜ r .at + 18432 ≤ length (now (out .entry)) ⌝ }
+{
+    if replaying::has_room(out.len(), at) {
+        return Next {
+            at: at,
+            written: true,
+        };
+    }
+    let written = io::write_all(STDOUT_FILENO, &out[..at]);
+    Next {
+        at: 0,
+        written: written,
+    }
+}
+
+// Feeds a block. Where the output can't be written there is nothing more to do.
+fn play_block(
+    block: &[u8],
+    line: &mut [u8; 2044],
+    numbers: &mut [u32; 512],
+    pdcps: &mut [u32; 512],
+    marks: &mut [u32; 512],
+    starts: &mut [u32; 256],
+    ends: &mut [u32; 256],
+    words: &mut [u32; 6],
+    out: &mut [u8],
+    state: State,
+) -> State
+    requires { ⌜ (18432 ≤ length (now out)) × (state .at ≤ length (now out)) ⌝ }
+    ensures { λ r. ⌜ r .at ≤ length (now (out .exit)) ⌝ }
+{
+    let mut s = state;
+    let mut from = 0;
+    while from < block.len() {
+        let next = next_place(out, s.at);
+        if !next.written {
+            s.at = 0;
+            s.more = false;
+            return s;
+        }
+        let l = s.ledger;
+        let fed = replaying::feed(
+            &block[from..], line, s.held, numbers, pdcps, marks, starts, ends, words, s.opened, l, out, next.at,
+        );
+        let after = fed.ledger;
+        from += fed.taken;
+        s = State {
+            held: fed.held,
+            at: fed.at,
+            opened: fed.opened,
+            ledger: after,
+            more: true,
+        };
+    }
+    s
+}
+
+// Reads once, and feeds what came.
+fn play_some(
+    block: &mut [u8],
+    line: &mut [u8; 2044],
+    numbers: &mut [u32; 512],
+    pdcps: &mut [u32; 512],
+    marks: &mut [u32; 512],
+    starts: &mut [u32; 256],
+    ends: &mut [u32; 256],
+    words: &mut [u32; 6],
+    out: &mut [u8],
+    state: State,
+) -> State
+    requires { ⌜ (18432 ≤ length (now out)) × (state .at ≤ length (now out)) ⌝ }
+    ensures { λ r. ⌜ r .at ≤ length (now (out .exit)) ⌝ }
+{
+    let got = libc::read(STDIN_FILENO, block);
+    let n = io::count(got, block);
+    if n == 0 {
+        let mut s = state;
+        s.more = false;
+        return s;
+    }
+    play_block(&block[..n], line, numbers, pdcps, marks, starts, ends, words, out, state)
+}
+
+// Writes what is left, with the answer to a last line without its line end.
+fn play_last(
+    line: &[u8; 2044],
+    numbers: &mut [u32; 512],
+    pdcps: &mut [u32; 512],
+    marks: &mut [u32; 512],
+    starts: &mut [u32; 256],
+    ends: &mut [u32; 256],
+    words: &mut [u32; 6],
+    out: &mut [u8],
+    state: State,
+)
+    requires { ⌜ (18432 ≤ length (now out)) × (state .at ≤ length (now out)) ⌝ }
+{
+    let next = next_place(out, state.at);
+    let l = state.ledger;
+    let end = replaying::finish(
+        line, state.held, numbers, pdcps, marks, starts, ends, words, state.opened, l, out, next.at,
+    );
+    io::write_all(STDOUT_FILENO, &out[..end]);
+}
+
+// How many reads are left after one: none where there is nothing more to read.
+fn reads_left(reads: u64, more: bool) -> u64
+    requires { ⌜ 0 < reads ⌝ }
+    ensures { λ r. ⌜ r < reads ⌝ }
+{
+    if more { reads - 1 } else { 0 }
+}
+
+// Before any open: ends that no call reaches.
+fn unopened() -> State
+    ensures { λ r. ⌜ r .at ≡ 0 ⌝ }
+{
+    let none = ledger::open(0, 0, 0);
+    let l = none.ledger;
+    State {
+        held: 0,
+        at: 0,
+        opened: false,
+        ledger: l,
+        more: true,
+    }
+}
+
+fn words_of_512() -> [u32; 512] {
+    [0; 512]
+}
+
+fn words_of_256() -> [u32; 256] {
+    [0; 256]
+}
+
+// Reads to the end. A proved loop has to end, and nothing says that an input does: it counts its reads down from a
+// number that no run uses up.
+fn play_all(block: &mut [u8], line: &mut [u8; 2044], out: &mut [u8])
+    requires { ⌜ 18432 ≤ length (now out) ⌝ }
+{
+    let mut numbers = words_of_512();
+    let mut pdcps = words_of_512();
+    let mut marks = words_of_512();
+    let mut starts = words_of_256();
+    let mut ends = words_of_256();
+    let mut words = [0u32; 6];
+    let mut state = unopened();
+    let mut reads = u64::MAX;
+    while 0 < reads {
+        state = play_some(
+            block, line, &mut numbers, &mut pdcps, &mut marks, &mut starts, &mut ends, &mut words, out, state,
+        );
+        reads = reads_left(reads, state.more);
+    }
+    play_last(
+        line, &mut numbers, &mut pdcps, &mut marks, &mut starts, &mut ends, &mut words, out, state,
+    );
+}
+
+// A buffer for an unfinished line.
+fn empty_line() -> [u8; 2044] {
+    [0; 2044]
+}
+
+fn main() {
+    let mut block = io::large_buffer();
+    let mut line = empty_line();
+    let mut out = io::large_buffer();
+    play_all(&mut block, &mut line, &mut out);
+}

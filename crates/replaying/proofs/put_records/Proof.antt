@@ -1,0 +1,92 @@
+use Prim.Native.Nat.{ℕ, _+_, _-_, _*_, _^_, _≤_, _<_}
+use native.Mathlib.Omega.{arith}
+use mathlib.Core.Path.{_≡_, refl, sym, _∙_, ap}
+use lib.ListN.{length, getD, set, take, drop}
+use borrow.Author.Needs.{needs}
+use Rattle.replaying.proofs.put_records.Statement.{statement}
+use Rattle.replaying.proofs.put_records.Tie as tie
+
+abbrev Inv-loop : tie.InvT-loop
+Inv-loop numbers pdcps marks n out₀ at mark₀ at₀ i₀ out mark at' i = (i ≤ n) × (at' ≤ length out) × (length out ≡ length out₀)
+
+abbrev μ-loop : tie.MeasureT-loop
+μ-loop numbers pdcps marks n out₀ at mark₀ at₀ i₀ out mark at' i = n - i
+
+slice-aggregate-put : tie.Need-slice-aggregate-put Inv-loop μ-loop
+slice-aggregate-put c = search needs
+
+put-requires : tie.Need-put-requires Inv-loop μ-loop
+put-requires c κs = search needs
+
+same-length : tie.Need-same-length Inv-loop μ-loop
+same-length c = search needs
+
+returns : tie.Need-returns Inv-loop μ-loop
+returns c = search needs
+
+loop-holds : tie.Need-loop-holds Inv-loop μ-loop
+loop-holds c = search needs
+
+mul-put-packet : tie.Need-mul-put-packet Inv-loop μ-loop
+mul-put-packet c = search needs
+
+element-copy-out-put-packet : tie.Need-element-copy-out-put-packet Inv-loop μ-loop
+element-copy-out-put-packet c = search needs
+
+mul-put-packet-2 : tie.Need-mul-put-packet-2 Inv-loop μ-loop
+mul-put-packet-2 c = search needs
+
+element-copy-out-put-packet-2 : tie.Need-element-copy-out-put-packet-2 Inv-loop μ-loop
+element-copy-out-put-packet-2 c = search needs
+
+mul-kind-of-mark : tie.Need-mul-kind-of-mark Inv-loop μ-loop
+mul-kind-of-mark c = search needs
+
+element-copy-out-kind-of-mark : tie.Need-element-copy-out-kind-of-mark Inv-loop μ-loop
+element-copy-out-kind-of-mark c = search needs
+
+kind-of-mark-requires : tie.Need-kind-of-mark-requires Inv-loop μ-loop
+kind-of-mark-requires c κs = search needs
+
+put-packet-requires : tie.Need-put-packet-requires Inv-loop μ-loop
+put-packet-requires c κs = search needs
+
+add-i : tie.Need-add-i Inv-loop μ-loop
+add-i c = search needs
+
+loop-less : tie.Need-loop-less Inv-loop μ-loop
+loop-less c = search needs
+
+loop-again : tie.Need-loop-again Inv-loop μ-loop
+loop-again c = search needs
+
+same-length-2 : tie.Need-same-length-2 Inv-loop μ-loop
+same-length-2 c = search needs
+
+returns-2 : tie.Need-returns-2 Inv-loop μ-loop
+returns-2 c = search needs
+
+pub put-records-spec : {M : Type 1} → statement M
+put-records-spec =
+    tie.close
+    (tie.spec
+    Inv-loop
+    μ-loop
+    slice-aggregate-put
+    put-requires
+    same-length
+    returns
+    loop-holds
+    mul-put-packet
+    element-copy-out-put-packet
+    mul-put-packet-2
+    element-copy-out-put-packet-2
+    mul-kind-of-mark
+    element-copy-out-kind-of-mark
+    kind-of-mark-requires
+    put-packet-requires
+    add-i
+    loop-less
+    loop-again
+    same-length-2
+    returns-2)
