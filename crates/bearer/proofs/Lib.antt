@@ -37,6 +37,7 @@ pub mod Arriving
 pub mod Copies
 pub mod Demand3
 pub mod KeeperMeans
+pub mod StatusesFit
 pub mod Turned
 pub mod Applied
 pub mod AcceptsAny

@@ -36,14 +36,15 @@ use Rattle.bearer.proofs.Delivery.{frames-append}
 use Rattle.bearer.proofs.Cut.{cutAfter, toldAfter, told-now, carried, told-enough, the-last, cut-onward, cut-below-base, gone-before, kept-behind, above-after, below-after, deserving-after}
 
 -- runs of packets are ranges of the form
-runs-fit : (L first : ℕ) (gs : List Gap) → all (inForm (isLong L)) (map (runAt L first) gs) ≡ true
+pub runs-fit : (L first : ℕ) (gs : List Gap) → all (inForm (isLong L)) (map (runAt L first) gs) ≡ true
 runs-fit L first [] = refl
 runs-fit L first (g ∷ gs) =
     rw (lt-ltb (numberOf L first (g .from)) (numbers L) (mod-lt (first + g .from) (positive L)), lt-ltb (numberOf L first (g .to - 1)) (numbers L) (mod-lt (first + (g .to - 1)) (positive L)), runs-fit L first gs)
 
 -- a writer of what its type can carry refuses only for want of room
-writes : (s : Status) → WritableStatus s → (d : List ℕ) → writeStatus s d ≡ place (statusOctets s) d
-writes s w d = rw (le-ltb (mostHighest (s .long)) (s .highest) (w .highest-fits), le-ltb mostRanges (length (s .ranges)) (w .ranges-few), w .ranges-fit)
+pub writes : (s : Status) → s .highest ≤ mostHighest (s .long) → length (s .ranges) ≤ mostRanges → all (inForm (s .long)) (s .ranges) ≡ true
+    → (d : List ℕ) → writeStatus s d ≡ place (statusOctets s) d
+writes s h few fit d = rw (le-ltb (mostHighest (s .long)) (s .highest) h, le-ltb mostRanges (length (s .ranges)) few, fit)
 
 module _ (L first : ℕ) (ok : isLength L ≡ true) (w : World) (j : Joint L first w) (d m : ℕ) (final : Bool) (sizes : (d < 2 ^ 32) × (m < 2 ^ 32)) where
   x : Second L first (j .a) (j .told) (j .cut) (w .keeper) (w .fates) (w .sent) (w .confirmed)
@@ -207,10 +208,10 @@ status-cases k d m final buffer w = go (tested (k .closed)) (tested (final and l
     go (inr c) (inl t) u = subst (Reports k (K.statusNow k d m final) final buffer) (sym (ap (λ (b : Bool). by b (final and ltb mostRanges (length (k .runs)))) c ∙ ap (λ (b : Bool). by false b) t)) (refuses 22)
     go (inr c) (inr t) (inl u) =
         subst (Reports k (K.statusNow k d m final) final buffer)
-        (sym (ap (λ (b : Bool). by b (final and ltb mostRanges (length (k .runs)))) c ∙ ap (λ (b : Bool). by false b) t ∙ ap (K.reportedAs k final) (writes (K.statusNow k d m final) w buffer ∙ ap written u))) (refuses 20)
+        (sym (ap (λ (b : Bool). by b (final and ltb mostRanges (length (k .runs)))) c ∙ ap (λ (b : Bool). by false b) t ∙ ap (K.reportedAs k final) (writes (K.statusNow k d m final) (w .highest-fits) (w .ranges-few) (w .ranges-fit) buffer ∙ ap written u))) (refuses 20)
     go (inr c) (inr t) (inr u) =
         subst (Reports k (K.statusNow k d m final) final buffer)
-        (sym (ap (λ (b : Bool). by b (final and ltb mostRanges (length (k .runs)))) c ∙ ap (λ (b : Bool). by false b) t ∙ ap (K.reportedAs k final) (writes (K.statusNow k d m final) w buffer ∙ ap written u))) (builds c)
+        (sym (ap (λ (b : Bool). by b (final and ltb mostRanges (length (k .runs)))) c ∙ ap (λ (b : Bool). by false b) t ∙ ap (K.reportedAs k final) (writes (K.statusNow k d m final) (w .highest-fits) (w .ranges-few) (w .ranges-fit) buffer ∙ ap written u))) (builds c)
 
 pub joint-status : (L first : ℕ) → isLength L ≡ true → (w : World) (d m : ℕ) (final : Bool) (buffer : List ℕ) → (d < 2 ^ 32) × (m < 2 ^ 32) → Joint L first w
     → Joint L first (afterStatus w (K.status (w .keeper) d m final buffer))

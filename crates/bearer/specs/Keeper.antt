@@ -235,7 +235,7 @@ stateBy k final (refused n) = k
 abbrev pub reportedAs : Keeper → Bool → Written → Reported
 reportedAs k final w = record { answer = w .answer; state = stateBy k final (w .answer); buffer = w .buffer }
 
--- a status: 9, 22, and then as the writer answers (20; 4 and 10 only in states that no calls reach)
+-- a status: 9, 22, and then as the writer answers (20; 4 and 10 only in states that no calls reach: `StatusesFit` of Meaning.antt)
 abbrev pub status : Keeper → ℕ → ℕ → Bool → List ℕ → Reported
 status k desired minimum final d =
     if k .closed then record { answer = refused 9; state = k; buffer = d } else

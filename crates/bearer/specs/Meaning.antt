@@ -9,7 +9,7 @@ use Prim.Native.Nat.{ℕ, zero, suc, _+_, _-_, _≤_, _<_}
 use lib.ListN.{length, take, drop}
 use Rattle.circle.specs.Circle.{forward}
 use Rattle.layout.specs.Basics.{done}
-use Rattle.layout.specs.Frames.{Range, Status, statusOctets}
+use Rattle.layout.specs.Frames.{Range, Status, statusOctets, place, writeStatus}
 use Rattle.bearer.specs.Bearer.{numbers, half, mostRuns, mostRecords}
 use Rattle.bearer.specs.Losses.{Gap}
 use Rattle.bearer.specs.Keeper.{Keeper, Record, openKeeper, circle, arrive, expire, confirm, status, statusNow}
@@ -162,3 +162,10 @@ StatusesSay =
     → (d m : ℕ) (final : Bool) (buffer : List ℕ) (c : ℕ) → status k d m final buffer .answer ≡ done c
     → StatusSays L first k (status k d m final buffer .state) (statusNow k d m final)
     × (take c (status k d m final buffer .buffer) ≡ statusOctets (statusNow k d m final))
+
+-- A status of a state that calls reach is refused by 9 and by 22, and then for want of room (20) alone: the writer refuses neither its
+-- highest nor its ranges.
+abbrev pub StatusesFit : Type 0
+StatusesFit =
+    (L first f : ℕ) (k : Keeper) (r : Fates) (told : ℕ) → Reached L first f k r told
+    → (d m : ℕ) (final : Bool) (buffer : List ℕ) → writeStatus (statusNow k d m final) buffer ≡ place (statusOctets (statusNow k d m final)) buffer

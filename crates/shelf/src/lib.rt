@@ -24,6 +24,9 @@ pub fn insert(a: &mut [u32], i: usize, v: u32)
 pub fn drop_front(a: &mut [u32], k: usize)
     ensures { λ _. ⌜ now (a .exit) ≡ drop k (now (a .entry)) ++ drop (length (now (a .entry)) - k) (now (a .entry)) ⌝ }
 {
+    if k == 0 {
+        return;
+    }
     if a.len() <= k {
         return;
     }

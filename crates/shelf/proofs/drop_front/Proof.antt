@@ -1,8 +1,10 @@
 -- `drop_front`: what was moved so far is in its place, and what is to be moved is untouched. Assumes nothing.
 use mathlib.Core.Path.{_≡_, _∙_}
+use mathlib.Core.List.{append-nil}
 use Prim.Native.Nat.{_+_, _-_, _≤_}
 use native.Mathlib.Omega.{arith}
 use lib.ListN.{length-set, drop-of-length-le, length}
+use lib.Seq.{drop-length}
 use borrow.Author.Needs.{needs}
 use Rattle.shelf.proofs.Moves.{lowered, lowered-more, lowered-all}
 use Rattle.shelf.proofs.drop_front.Statement.{statement}
@@ -17,8 +19,15 @@ abbrev μ-loop : tie.MeasureT-loop
 returns : tie.Need-returns Inv-loop μ-loop
 returns c =
     let a = c .before .args .a .now in
-    let k = c .before .args .k in
-    let h : length a ≤ k = c .if1 .taken in
+    let none : c .before .args .k ≡ 0 = c .if1 .taken in
+    let all-left : length a - 0 ≡ length a = omega arith in
+    rw (none, all-left, drop-length a, append-nil a)
+
+returns-2 : tie.Need-returns-2 Inv-loop μ-loop
+returns-2 c =
+    let a = c .before .before .args .a .now in
+    let k = c .before .before .args .k in
+    let h : length a ≤ k = c .if2 .taken in
     let e : length a - k ≡ 0 = omega arith in
     rw (e, drop-of-length-le a h)
 
@@ -52,7 +61,7 @@ loop-less c = search needs
 loop-again : tie.Need-loop-again Inv-loop μ-loop
 loop-again c =
     let p = c .before .before .loop in
-    let s = c .before .before .before .before .args in (
+    let s = c .before .before .before .before .before .args in (
       omega arith,
       omega arith,
       simp length-set (p .inv .2),
@@ -62,10 +71,10 @@ loop-again c =
 same-length : tie.Need-same-length Inv-loop μ-loop
 same-length c = search needs
 
-returns-2 : tie.Need-returns-2 Inv-loop μ-loop
-returns-2 c =
+returns-3 : tie.Need-returns-3 Inv-loop μ-loop
+returns-3 c =
     let p = c .before .loop in
-    let s = c .before .before .before .args in
+    let s = c .before .before .before .before .args in
     p .inv .3 ∙ lowered-all (s .a .now) (s .k) (p .j) (omega arith)
 
 pub drop-front-spec : {M : Type 1} → statement M
@@ -75,6 +84,7 @@ drop-front-spec =
     Inv-loop
     μ-loop
     returns
+    returns-2
     sub-left
     loop-holds
     add-a
@@ -86,4 +96,4 @@ drop-front-spec =
     loop-less
     loop-again
     same-length
-    returns-2)
+    returns-3)
