@@ -1,14 +1,16 @@
 -- An answer is a signed number of 64 bits: what a call hands back is what it said.
 -- Assumes nothing.
 use mathlib.Core.Path.{_≡_, refl, sym, _∙_, ap}
-use Prim.Native.Nat.{ℕ, zero, suc, _<_, _^_}
+use mathlib.Core.Bool.{Bool, true, false, cond}
+use Prim.Native.Nat.{ℕ, zero, suc, _-_, _<_, _^_}
 use native.Mathlib.Omega.{arith}
-use lib.IntN.{ℤ, pos, negsuc, negℤ, _-ℤ_, +ℤ-idl}
+use lib.Dec.{ltb}
+use lib.IntN.{ℤ, pos, negsuc, _-ℤ_}
 use lib.Signed.{mag}
 use mir.Syntax.{w64}
 use mir.Val.{SFits, toZ, ofZ}
 use mir.ValLaws.{toZ-pos, toZ-ofZ}
-use Rattle.x2u.specs.Boundary.{minus, Left, leaves}
+use Rattle.x2u.specs.Boundary.{Left, leaves}
 
 -- ---- made
 
@@ -16,23 +18,30 @@ use Rattle.x2u.specs.Boundary.{minus, Left, leaves}
 pub as-signed : (n : ℕ) → n < 2 ^ 63 → toZ w64 n ≡ pos n
 as-signed n h = toZ-pos w64 n h
 
-minus-small : (n : ℕ) → n < 2 ^ 63 → mag (minus n) < 2 ^ 63
-minus-small zero h = h
-minus-small (suc n) h = omega arith
+by-test : (t : Bool) (a b m : ℕ) → a < m → b < m → mag (cond t (negsuc (b - suc a)) (pos (a - b))) < m
+by-test true a b m h k = omega arith
+by-test false a b m h k = omega arith
 
--- 0 less a number is minus that number, and it fits
-pub taken-from-0 : (n : ℕ) → n < 2 ^ 63 → pos 0 -ℤ toZ w64 n ≡ minus n
-taken-from-0 n h = ap (λ (z : ℤ). pos 0 -ℤ z) (as-signed n h) ∙ +ℤ-idl (minus n)
+-- so small numbers differ by a small one
+near : (a b m : ℕ) → a < m → b < m → mag (pos a -ℤ pos b) < m
+near a zero m h k = omega arith
+near a (suc b) m h k = by-test (ltb a (suc b)) a (suc b) m h k
 
-pub minus-fits : (n : ℕ) → n < 2 ^ 63 → SFits w64 (pos 0 -ℤ toZ w64 n)
-minus-fits n h = record { sfits = rw (taken-from-0 n h) (minus-small n h) }
+module _ (a b : ℕ) (h : a < 2 ^ 63) (k : b < 2 ^ 63) where
+  read-back : toZ w64 a -ℤ toZ w64 b ≡ pos a -ℤ pos b
+  read-back = ap (λ (z : ℤ). z -ℤ toZ w64 b) (as-signed a h) ∙ ap (λ (z : ℤ). pos a -ℤ z) (as-signed b k)
 
-pub minus-made : (n : ℕ) → n < 2 ^ 63 → toZ w64 (ofZ w64 (pos 0 -ℤ toZ w64 n)) ≡ minus n
-minus-made n h = toZ-ofZ w64 _ (minus-fits n h) ∙ taken-from-0 n h
+  -- a number less another fits, and is the difference
+  pub less-fits : SFits w64 (toZ w64 a -ℤ toZ w64 b)
+  less-fits = record { sfits = rw read-back (near a b (2 ^ 63) h k) }
+
+  pub less-made : toZ w64 (ofZ w64 (toZ w64 a -ℤ toZ w64 b)) ≡ pos a -ℤ pos b
+  less-made = toZ-ofZ w64 _ less-fits ∙ read-back
 
 -- ---- handed on
 
-handed-on : {z x : ℤ} → mag z < 2 ^ 63 → z ≡ x → toZ w64 (ofZ w64 z) ≡ x
+-- what a call answered is what it said
+pub handed-on : {z x : ℤ} → mag z < 2 ^ 63 → z ≡ x → toZ w64 (ofZ w64 z) ≡ x
 handed-on {z} fits e = toZ-ofZ w64 z (record { sfits = fits }) ∙ e
 
 -- an answer that a call made, and what is left with it

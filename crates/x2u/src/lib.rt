@@ -4,7 +4,7 @@
 ghost use mathlib.Core.Path.{_≡_};
 ghost use mathlib.Core.List.{[], _∷_};
 ghost use Prim.Native.Nat.{ℕ, _^_, _<_};
-ghost use lib.IntN.{pos, negsuc};
+ghost use lib.IntN.{pos, negsuc, _-ℤ_};
 ghost use lib.ListN.{length};
 ghost use Rattle.layout.specs.Basics.{bit};
 ghost use Rattle.layout.specs.Frames.{dataType, statusType, rangesOf, readFrame, writeData, writeStatus};
@@ -266,7 +266,14 @@ pub extern "C" fn x2u_keeper_status(
 fn refused(n: u32) -> i64
     ensures { λ r. ⌜ r ≡ minus n ⌝ }
 {
-    0 - (n as i64)
+    less(0, n)
+}
+
+// A number less another.
+fn less(a: u32, b: u32) -> i64
+    ensures { λ r. ⌜ r ≡ pos a -ℤ pos b ⌝ }
+{
+    (a as i64) - (b as i64)
 }
 
 // A number, as an answer.

@@ -1,18 +1,17 @@
 -- `refused`: 0 less a number is minus that number. Assumes nothing.
-use native.Mathlib.Omega.{arith}
-use Rattle.x2u.proofs.Answers.{minus-fits, minus-made}
+use mathlib.Core.Path.{_∙_}
+use lib.IntN.{+ℤ-idl}
 use borrow.Author.Needs.{needs}
+use Rattle.x2u.specs.Boundary.{minus}
+use Rattle.x2u.proofs.Answers.{handed-on}
 use Rattle.x2u.proofs.refused.Statement.{statement}
 use Rattle.x2u.proofs.refused.Tie as tie
 
-cast-result : tie.Need-cast-result
-cast-result c = search needs
-
-sub-result : tie.Need-sub-result
-sub-result c = minus-fits (c .args .n) (omega arith)
+less-requires : tie.Need-less-requires
+less-requires c κs = search needs
 
 returns : tie.Need-returns
-returns c = minus-made (c .args .n) (omega arith)
+returns c = handed-on (c .less .ok) (c .less .ensures ∙ +ℤ-idl (minus (c .before .args .n)))
 
 pub refused-spec : {M : Type 1} → statement M
-refused-spec = tie.close (tie.spec cast-result sub-result returns)
+refused-spec = tie.close (tie.spec less-requires returns)
