@@ -302,13 +302,14 @@ impl Watch {
         Ok(())
     }
 
-    /// Take was called, on a closed master or an open one.
-    pub fn taken(&mut self, closed: bool, answer: Result<Entry, Refusal>) -> Verdict {
+    /// Take was called, on a closed master or an open one; it answers a number
+    /// and a PDCP number.
+    pub fn taken(&mut self, closed: bool, answer: Result<(u32, u32), Refusal>) -> Verdict {
         let oldest = (self.held_from..self.packets.len())
             .filter(|&packet| !self.has_left(packet))
             .find(|&packet| closed || self.entry(packet).fate == Held::Lost);
         let expected = oldest
-            .map(|packet| self.entry(packet))
+            .map(|packet| self.numbers(packet))
             .ok_or(Refusal::NothingToTake);
         check!(answer == expected, "take gave {answer:?}, not {expected:?}");
         if let Some(packet) = oldest {

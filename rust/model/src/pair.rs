@@ -119,7 +119,8 @@ impl Pair {
     pub fn take(&mut self) -> Watched<Entry> {
         let closed = self.ledger.is_closed();
         let answer = self.ledger.take();
-        self.watch.taken(closed, answer)?;
+        let numbers = answer.map(|entry| (entry.number, entry.pdcp));
+        self.watch.taken(closed, numbers)?;
         Ok(answer)
     }
 

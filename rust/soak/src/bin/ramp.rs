@@ -49,9 +49,9 @@ fn run() -> Result<bool, String> {
         took: start.elapsed(),
     };
     let verdict = if report.passed() {
-        "passed, 0 mismatches"
+        "0 mismatches"
     } else {
-        "FAILED"
+        "see the report"
     };
     let chart = Chart {
         settings: &settings,
@@ -63,6 +63,7 @@ fn run() -> Result<bool, String> {
             grouped(ending.tally.freed),
             grouped(ending.tally.taken)
         ),
+        passed: report.passed(),
     };
     println!("{report}");
     save(&options, "report", "ramp.txt", &report.to_string())?;

@@ -27,6 +27,8 @@ pub struct Chart<'a> {
     pub figures: &'a Figures,
     /// A line of text under the title.
     pub subtitle: String,
+    /// Whether nothing went wrong.
+    pub passed: bool,
 }
 
 /// A panel: where it is, and what its full height stands for.
@@ -53,7 +55,7 @@ impl Chart<'_> {
     /// Every so many seconds there is a mark on the axis of time.
     fn time_step(&self) -> u32 {
         let fits = |step: &u32| self.settings.seconds / step <= 12;
-        [10, 20, 30, 60, 120, 300, 600]
+        [1, 2, 5, 10, 20, 30, 60, 120, 300, 600]
             .into_iter()
             .find(fits)
             .unwrap_or(1_800)
@@ -195,7 +197,7 @@ impl Chart<'_> {
     fn base(&self, out: &mut Formatter<'_>) -> fmt::Result {
         let size = self.settings.opening().numbers() as f64;
         let panel = self.panel(2, size);
-        let title = "Base: the X2-U number of the lowest packet still missing";
+        let title = "Base: the lowest X2-U number still open at the secondary";
         let quarters = [0.0, size / 4.0, size / 2.0, size * 0.75, size];
         panel.frame(out, title, &quarters)?;
         for &time in &self.figures.numbers.times {
@@ -252,7 +254,8 @@ impl Chart<'_> {
 impl Chart<'_> {
     /// When there was which trouble, second by second.
     fn troubles(&self, out: &mut Formatter<'_>, top: f64) -> fmt::Result {
-        text(out, LEFT - 8.0, top + 9.0, "end", GREY, 12.0, "Trouble")?;
+        text(out, LEFT - 8.0, top + 8.0, "end", GREY, 12.0, "Seconds")?;
+        text(out, LEFT - 8.0, top + 23.0, "end", GREY, 12.0, "with")?;
         for (row, name) in TROUBLES.iter().enumerate() {
             let y = top + 4.0 + 15.0 * row as f64;
             write!(out, r#"<path stroke="{PURPLE}" stroke-width="8" d=""#)?;
@@ -281,12 +284,22 @@ impl Display for Chart<'_> {
             bits,
             rate,
             seconds,
+            seed,
             ..
         } = self.settings;
-        let minutes = f64::from(*seconds) / 60.0;
+        let (minutes, rest) = (seconds / 60, seconds % 60);
         let rate = grouped(u64::from(*rate));
-        let title = format!("Ramp soak: {minutes} minutes, L = {bits}, {rate} packets a second");
+        let title = format!(
+            "Ramp soak: {minutes} min {rest:02} s, L = {bits}, {rate} packets a second, seed {seed}"
+        );
         text(out, LEFT, 38.0, "start", "#111", 20.0, &title)?;
+        let (verdict, colour) = if self.passed {
+            ("PASSED", GREEN)
+        } else {
+            ("FAILED", RED)
+        };
+        let right = self.x(f64::INFINITY) + 8.0;
+        text(out, right, 38.0, "start", colour, 20.0, verdict)?;
         text(out, LEFT, 62.0, "start", "#444", 13.0, &self.subtitle)?;
         self.stores(out)?;
         self.base(out)?;

@@ -58,9 +58,9 @@ enum Comb {
     },
 }
 
-/// The kinds of trouble that a chart shows.
+/// The kinds of trouble that a chart shows, second by second.
 pub const TROUBLES: [&str; 5] = [
-    "all packets dropped",
+    "a burst dropped",
     "every 2nd packet dropped",
     "statuses stuck",
     "handset asleep",

@@ -1,10 +1,8 @@
 //! The library's ledger against the naive one, on calls of every kind.
 
-mod common;
-
-use common::openings;
 use model::master::Fate as Told;
 use model::{Master, Opening};
+use property::bearer::openings;
 use proptest::collection::vec;
 use proptest::prelude::*;
 use proptest::sample::Index;

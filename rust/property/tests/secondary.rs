@@ -1,9 +1,7 @@
 //! The library's keeper against the naive one, on calls of every kind.
 
-mod common;
-
-use common::openings;
 use model::{Opening, Secondary};
+use property::bearer::openings;
 use proptest::collection::vec;
 use proptest::prelude::*;
 use x2u::frame::{self, Frame, Range};

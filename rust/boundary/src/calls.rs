@@ -1,0 +1,201 @@
+//! The calls, safe to make.
+#![allow(unsafe_code)]
+
+use crate::foreign::{self, Records, Runs, Words};
+
+/// Reads a frame: its type, or the refusal below zero.
+#[inline]
+pub fn read(frame: &[u8], fields: &mut [u32; 6]) -> i64 {
+    // SAFETY: pointer and length are those of one slice, `fields` is an array.
+    unsafe { foreign::x2u_read(frame.as_ptr(), frame.len(), fields) }
+}
+
+/// Lays the place before a status's first range in `cursor`.
+#[inline]
+pub fn first_range(frame: &[u8], cursor: &mut [u32; 3]) -> i64 {
+    // SAFETY: as in `read`.
+    unsafe { foreign::x2u_first_range(frame.as_ptr(), frame.len(), cursor) }
+}
+
+/// Lays the range at `cursor` in `range` and goes on to the next: 1, or 0 if
+/// there is none.
+#[inline]
+pub fn next_range(frame: &[u8], cursor: &mut [u32; 3], range: &mut [u32; 2]) -> i64 {
+    // SAFETY: as in `read`.
+    unsafe { foreign::x2u_next_range(frame.as_ptr(), frame.len(), cursor, range) }
+}
+
+/// Writes a data frame: its length, or the refusal below zero.
+#[inline]
+pub fn write_data(long: bool, number: u32, dst: &mut [u8]) -> i64 {
+    // SAFETY: pointer and length are those of one slice.
+    unsafe { foreign::x2u_write_data(long.into(), number, dst.as_mut_ptr(), dst.len()) }
+}
+
+/// Writes a status: its length, or the refusal below zero. `head` is highest,
+/// desired and minimum.
+#[inline]
+pub fn write_status(
+    long: bool,
+    last: bool,
+    head: [u32; 3],
+    starts: &[u32],
+    ends: &[u32],
+    dst: &mut [u8],
+) -> i64 {
+    let [highest, desired, minimum] = head;
+    // SAFETY: pointers and lengths are those of three slices that don't overlap.
+    unsafe {
+        foreign::x2u_write_status(
+            long.into(),
+            last.into(),
+            highest,
+            desired,
+            minimum,
+            starts.as_ptr(),
+            starts.len(),
+            ends.as_ptr(),
+            ends.len(),
+            dst.as_mut_ptr(),
+            dst.len(),
+        )
+    }
+}
+
+/// The product's state of a secondary, as it lies in memory.
+#[derive(Clone, Debug, PartialEq, Eq)]
+pub struct Keeper {
+    /// X2-U numbers of the records.
+    pub numbers: Records,
+    /// Their PDCP numbers.
+    pub pdcps: Records,
+    /// Not 0 where one is confirmed.
+    pub marks: Records,
+    /// Starts of the listed runs.
+    pub starts: Runs,
+    /// Their ends.
+    pub ends: Runs,
+    /// L, base, reported highest, closed, how many runs, how many records.
+    pub words: Words,
+}
+
+impl Keeper {
+    /// A state with `word` in every place.
+    #[must_use]
+    pub const fn of(word: u32) -> Self {
+        Self {
+            numbers: [word; 512],
+            pdcps: [word; 512],
+            marks: [word; 512],
+            starts: [word; 256],
+            ends: [word; 256],
+            words: [word; 6],
+        }
+    }
+
+    /// Opens this end: 0, or the refusal below zero.
+    #[inline]
+    pub fn open(&mut self, length: u32, number: u32, pdcp: u32) -> i64 {
+        // SAFETY: six arrays of one struct, none of which overlap.
+        unsafe {
+            foreign::x2u_keeper_open(
+                &mut self.numbers,
+                &mut self.pdcps,
+                &mut self.marks,
+                &mut self.starts,
+                &mut self.ends,
+                &mut self.words,
+                length,
+                number,
+                pdcp,
+            )
+        }
+    }
+
+    /// A packet arrives: how many became lost, or the refusal below zero.
+    #[inline]
+    pub fn arrive(&mut self, number: u32, pdcp: u32) -> i64 {
+        // SAFETY: as in `open`.
+        unsafe {
+            foreign::x2u_keeper_arrive(
+                &mut self.numbers,
+                &mut self.pdcps,
+                &mut self.marks,
+                &mut self.starts,
+                &mut self.ends,
+                &mut self.words,
+                number,
+                pdcp,
+            )
+        }
+    }
+
+    /// Gives up the open numbers: how many became lost, or the refusal below
+    /// zero.
+    #[inline]
+    pub fn expire(&mut self) -> i64 {
+        // SAFETY: as in `open`.
+        unsafe {
+            foreign::x2u_keeper_expire(
+                &mut self.numbers,
+                &mut self.pdcps,
+                &mut self.marks,
+                &mut self.starts,
+                &mut self.ends,
+                &mut self.words,
+            )
+        }
+    }
+
+    /// A packet is confirmed: 0, or the refusal below zero.
+    #[inline]
+    pub fn confirm(&mut self, number: u32) -> i64 {
+        // SAFETY: as in `open`.
+        unsafe {
+            foreign::x2u_keeper_confirm(
+                &mut self.numbers,
+                &mut self.pdcps,
+                &mut self.marks,
+                &mut self.starts,
+                &mut self.ends,
+                &mut self.words,
+                number,
+            )
+        }
+    }
+
+    /// Builds a status: its length, or the refusal below zero.
+    #[inline]
+    pub fn status(&mut self, desired: u32, minimum: u32, last: bool, dst: &mut [u8]) -> i64 {
+        // SAFETY: as in `open`; `dst` is borrowed beside this state.
+        unsafe {
+            foreign::x2u_keeper_status(
+                &mut self.numbers,
+                &mut self.pdcps,
+                &mut self.marks,
+                &mut self.starts,
+                &mut self.ends,
+                &mut self.words,
+                desired,
+                minimum,
+                last.into(),
+                dst.as_mut_ptr(),
+                dst.len(),
+            )
+        }
+    }
+}
+
+/// Opens a ledger, sends `entries` packets, and accepts `frame` so many times.
+#[inline]
+pub fn ledger_accepts(length: u32, entries: u32, turns: u32, frame: &[u8]) -> u32 {
+    // SAFETY: pointer and length are those of one slice.
+    unsafe { foreign::probe_ledger_accept(length, entries, turns, frame.as_ptr(), frame.len()) }
+}
+
+/// Opens a ledger and sends so many packets.
+#[inline]
+pub fn ledger_sends(length: u32, turns: u32) -> u32 {
+    // SAFETY: numbers only.
+    unsafe { foreign::probe_ledger_send(length, turns) }
+}

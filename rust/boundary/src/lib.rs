@@ -1,0 +1,17 @@
+//! The product's functions, called through its C boundary.
+//!
+//! Slices cross as pointer and length, arrays as pointers, and a refusal comes
+//! back as its number below zero. Every function answers whatever it is given,
+//! so nothing more than the types here has to be kept to call them.
+//!
+//! Without the feature `product` there is nothing here.
+
+#[cfg(feature = "product")]
+mod calls;
+#[cfg(feature = "product")]
+mod foreign;
+
+#[cfg(feature = "product")]
+pub use calls::{
+    Keeper, first_range, ledger_accepts, ledger_sends, next_range, read, write_data, write_status,
+};

@@ -1,0 +1,250 @@
+//! A bearer inside demand 3's bounds, played step by step on the library's
+//! ends under watch, and recorded for another make to play.
+
+use crate::trace::{Event, Trace};
+use model::{Opening, Pair};
+use programs::replay::Call;
+use proptest::prelude::*;
+use proptest::sample::Index;
+use x2u::frame::LONGEST;
+
+/// Bearers that begin at most 700 packets before their circles roll over,
+/// with the long form as often as `long` says.
+pub fn openings(long: u32) -> impl Strategy<Value = Opening> {
+    let bits = prop_oneof![6 => Just(12_u32), 6 => Just(15), long => Just(18)];
+    (bits, 0_u64..700, 0_u64..700).prop_map(|(bits, back, pdcp_back)| {
+        let mut opening = Opening {
+            bits,
+            first: 0,
+            first_pdcp: 0,
+        };
+        opening.first = (opening.numbers() - back) % opening.numbers();
+        opening.first_pdcp = (opening.pdcps() - pdcp_back) % opening.pdcps();
+        opening
+    })
+}
+
+/// What may happen on a bearer.
+#[derive(Clone, Debug)]
+pub enum Step {
+    /// Sends, each leaving out `skip` PDCP numbers.
+    Send {
+        /// PDCP numbers left out.
+        skip: u32,
+        /// How many sends.
+        count: u32,
+    },
+    /// A send of any PDCP number.
+    SendAny(u32),
+    /// The next packets arrive, but for `dropped` of every `period`.
+    Arrive {
+        /// How many are dropped.
+        dropped: usize,
+        /// Of so many.
+        period: usize,
+        /// How many packets.
+        count: usize,
+    },
+    /// Some packet of those sent arrives, for the first time or again.
+    ArriveSome(Index),
+    /// Out of the circle, so refused before it is anything.
+    ArriveOutside(u32),
+    /// The gaps are given up.
+    Expire,
+    /// Confirms from the oldest unsettled packet on, but for every `passed`-th.
+    Confirm {
+        /// Which ones are left out.
+        passed: usize,
+        /// How many packets.
+        count: usize,
+    },
+    /// A confirm of any number.
+    ConfirmAny(u16),
+    /// A status.
+    Status {
+        /// Whether it is the last one.
+        is_final: bool,
+        /// The length of the buffer.
+        room: usize,
+    },
+    /// So many frames reach the master.
+    Deliver(usize),
+    /// A frame of the far end's making, unless the master would accept it.
+    Junk(Vec<u8>),
+    /// So many takes.
+    Take(usize),
+}
+
+/// Steps of every kind.
+pub fn steps() -> impl Strategy<Value = Step> {
+    let many = prop_oneof![3 => 1_usize..40, 1 => 200_usize..520];
+    let rooms = prop_oneof![4 => Just(1_018_usize), 1 => 0_usize..1_018];
+    prop_oneof![
+        8 => (prop_oneof![9 => Just(0_u32), 1 => 0_u32..4], many.clone())
+            .prop_map(|(skip, count)| Step::Send { skip, count: count as u32 }),
+        1 => any::<u32>().prop_map(Step::SendAny),
+        8 => (0_usize..3, 2_usize..9, many.clone())
+            .prop_map(|(dropped, period, count)| Step::Arrive { dropped, period, count }),
+        3 => Just(Step::Arrive { dropped: 1, period: 2, count: 400 }),
+        4 => any::<Index>().prop_map(Step::ArriveSome),
+        1 => any::<u32>().prop_map(Step::ArriveOutside),
+        3 => Just(Step::Expire),
+        8 => (prop_oneof![2 => Just(1_000_usize), 1 => 1_usize..60], many)
+            .prop_map(|(passed, count)| Step::Confirm { passed, count }),
+        1 => any::<u16>().prop_map(Step::ConfirmAny),
+        6 => (prop::bool::weighted(0.01), rooms)
+            .prop_map(|(is_final, room)| Step::Status { is_final, room }),
+        5 => (1_usize..4).prop_map(Step::Deliver),
+        1 => prop::collection::vec(any::<u8>(), 0..20).prop_map(Step::Junk),
+        4 => (1_usize..300).prop_map(Step::Take),
+    ]
+}
+
+/// A bearer being played.
+pub struct Bearer {
+    opening: Opening,
+    /// Both ends, under watch.
+    pub pair: Pair,
+    /// All calls so far.
+    pub trace: Trace,
+    /// The next packet that has not been on its way yet.
+    fresh: usize,
+}
+
+impl Bearer {
+    /// Opens one.
+    #[must_use]
+    pub fn new(opening: Opening) -> Self {
+        Self {
+            opening,
+            pair: Pair::open(opening),
+            trace: Trace::new(opening),
+            fresh: 0,
+        }
+    }
+
+    fn pdcp_after_last(&self, skip: u32) -> u32 {
+        let last = u64::from(self.pair.ledger.last_sent());
+        ((last + 1 + u64::from(skip)) % self.opening.pdcps()) as u32
+    }
+
+    /// Makes a step. Says so if demand 3 doesn't hold then.
+    pub fn make(&mut self, step: &Step) -> Result<(), String> {
+        match step {
+            Step::Send { skip, count } => {
+                for _ in 0..*count {
+                    self.send(self.pdcp_after_last(*skip))?;
+                }
+            }
+            Step::SendAny(pdcp) => self.send(*pdcp)?,
+            Step::Arrive {
+                dropped,
+                period,
+                count,
+            } => self.arrive(*dropped, *period, *count)?,
+            Step::ArriveSome(index) => {
+                let sent = self.pair.watch.sent_count();
+                if sent > 0 && self.pair.watch.may_arrive(index.index(sent)) {
+                    let _ = self.arrive_packet(index.index(sent))?;
+                }
+            }
+            Step::ArriveOutside(number) => {
+                let outside = number | 1 << 24;
+                self.trace.call(&Call::Arrive([outside, 0]), Event::Refused);
+                if self.pair.keeper.arrive(outside, 0).is_ok() {
+                    return Err(format!("{outside} was accepted"));
+                }
+            }
+            Step::Expire => {
+                self.trace.call(&Call::Expire, Event::Expired);
+                let _ = self.pair.expire()?;
+            }
+            Step::Confirm { passed, count } => self.confirm_some(*passed, *count)?,
+            Step::ConfirmAny(number) => self.confirm(u32::from(*number))?,
+            Step::Status { is_final, room } => self.status(*is_final, *room)?,
+            Step::Deliver(count) => {
+                for _ in 0..*count {
+                    self.deliver()?;
+                }
+            }
+            Step::Junk(octets) => {
+                if self.pair.ledger.clone().accept(octets).is_err() {
+                    self.trace.call(&Call::Accept(octets), Event::Refused);
+                    let _ = self.pair.ledger.accept(octets);
+                }
+            }
+            Step::Take(count) => {
+                for _ in 0..*count {
+                    self.trace.call(&Call::Take, Event::Taken);
+                    let _ = self.pair.take()?;
+                }
+            }
+        }
+        self.trace.call(&Call::Keeper, Event::Keeper);
+        self.trace.call(&Call::Ledger, Event::Ledger);
+        self.pair.check()
+    }
+
+    fn send(&mut self, pdcp: u32) -> Result<(), String> {
+        self.trace.call(&Call::Send(pdcp), Event::Sent(pdcp));
+        self.pair.send(pdcp).map(|_| ())
+    }
+
+    /// A copy of `packet` arrives.
+    pub fn arrive_packet(&mut self, packet: usize) -> model::pair::Watched<u32> {
+        let (number, pdcp) = self.pair.watch.numbers(packet);
+        self.trace
+            .call(&Call::Arrive([number, pdcp]), Event::Arrived(packet));
+        self.pair.arrive(packet)
+    }
+
+    /// The next packets arrive, but for `dropped` of every `period`.
+    pub fn arrive(&mut self, dropped: usize, period: usize, count: usize) -> Result<(), String> {
+        for i in 0..count.min(self.pair.watch.sent_count() - self.fresh) {
+            if i % period >= dropped {
+                let _ = self.arrive_packet(self.fresh + i)?;
+            }
+        }
+        self.fresh = self.pair.watch.sent_count().min(self.fresh + count);
+        Ok(())
+    }
+
+    fn confirm(&mut self, number: u32) -> Result<(), String> {
+        self.trace
+            .call(&Call::Confirm(number), Event::Confirmed(number));
+        self.pair.confirm(number).map(|_| ())
+    }
+
+    fn confirm_some(&mut self, passed: usize, count: usize) -> Result<(), String> {
+        let numbers: Vec<u32> = self.pair.keeper.records().map(|r| r.number).collect();
+        for (i, number) in numbers.into_iter().enumerate().take(count) {
+            if i % passed != passed - 1 {
+                self.confirm(number)?;
+            }
+        }
+        Ok(())
+    }
+
+    fn status(&mut self, is_final: bool, room: usize) -> Result<(), String> {
+        let call = Call::Status {
+            desired: 1,
+            minimum: 2,
+            is_final,
+            room,
+        };
+        self.trace.call(&call, Event::Built);
+        self.pair.status([1, 2], is_final, room).map(|_| ())
+    }
+
+    fn deliver(&mut self) -> Result<(), String> {
+        let mut room = [0; LONGEST];
+        let Some(octets) = self.pair.next_frame() else {
+            return Ok(());
+        };
+        let frame = &mut room[..octets.len()];
+        frame.copy_from_slice(octets);
+        self.trace.call(&Call::Accept(frame), Event::Accepted);
+        self.trace.call(&Call::Ledger, Event::Ledger);
+        self.pair.deliver().transpose().map(|_| ())
+    }
+}

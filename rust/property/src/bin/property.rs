@@ -1,0 +1,244 @@
+//! Runs every property on the product.
+
+use property::bearer::{Bearer, openings, steps};
+use property::scripts::{Aim, Script};
+use property::suite::Suite;
+use property::{codec, frames, keeper, replay, scripts};
+use proptest::collection::vec;
+use proptest::prelude::*;
+use soak::options::Options;
+use soak::table::Table;
+use std::cell::{Cell, RefCell};
+use std::path::{Path, PathBuf};
+use std::process::ExitCode;
+
+const USAGE: &str = "\
+usage: property --library REPLAY --product REPLAY [--shipped REPLAY]
+                [--frames N] [--calls N] [--shipped-calls N] [--seed N]
+
+Tries every property: the product's codec and keeper through the C boundary on
+at least N frames (1000000), and its REPLAY beside the library's on at least N
+calls (1000000); the shipped build of it, if it is given, on N more (100000).
+A case that fails is shrunk and shown. Ends with how many properties held and
+how many did not. Exit code: 0 all held, 1 some did not, 2 wrong use.";
+
+/// About as many lines make a script.
+const SCRIPT: usize = 4_000;
+
+fn main() -> ExitCode {
+    match run() {
+        Ok(true) => ExitCode::SUCCESS,
+        Ok(false) => ExitCode::FAILURE,
+        Err(trouble) => {
+            eprintln!("{trouble}\n\n{USAGE}");
+            ExitCode::from(2)
+        }
+    }
+}
+
+fn run() -> Result<bool, String> {
+    let known = [
+        "library",
+        "product",
+        "shipped",
+        "frames",
+        "calls",
+        "shipped-calls",
+        "seed",
+    ];
+    let options = Options::of(std::env::args().skip(1), &known)?;
+    let program = |name: &str| -> Result<PathBuf, String> { options.value(name, PathBuf::new()) };
+    let [library, product, shipped] = [
+        program("library")?,
+        program("product")?,
+        program("shipped")?,
+    ];
+    for (name, path) in [("library", &library), ("product", &product)] {
+        if !path.exists() {
+            return Err(format!("--{name} must be a program"));
+        }
+    }
+    let least_frames: u64 = options.value("frames", 1_000_000)?;
+    let least_calls: u64 = options.value("calls", 1_000_000)?;
+    let shipped_calls: u64 = options.value("shipped-calls", 100_000)?;
+    let mut suite = Suite::new(options.value("seed", 1)?);
+
+    codecs(&mut suite, least_frames);
+    keepers(&mut suite, least_calls);
+    let programs = [library.as_path(), product.as_path()];
+    replays(&mut suite, "replay", programs, least_calls);
+    demand_3(&mut suite, programs, (least_calls / 20_000) as u32 + 1);
+    if shipped.as_os_str().is_empty() {
+        println!("\nno shipped build was given");
+    } else {
+        replays(
+            &mut suite,
+            "shipped replay",
+            [&library, &shipped],
+            shipped_calls,
+        );
+    }
+    println!("{} passed, {} failed", suite.passed, suite.failed);
+    Ok(suite.failed == 0)
+}
+
+/// Frames read and written.
+fn codecs(suite: &mut Suite, least: u64) {
+    let (mut read, mut write) = (Table::default(), Table::default());
+    // Tenths of all frames, rounded up.
+    let part = |tenths: u64| (least * tenths).div_ceil(10) as u32;
+    suite.property(
+        "read: random octets",
+        part(2),
+        &frames::random(),
+        |octets| codec::reads_alike(octets, &mut read),
+    );
+    suite.property("read: good frames", part(2), &frames::good(), |layout| {
+        codec::reads_alike(&layout.octets(), &mut read)
+    });
+    suite.property(
+        "read: spoilt frames",
+        part(2),
+        &frames::hostile(),
+        |layout| codec::reads_alike(&layout.octets(), &mut read),
+    );
+    let cursors = (frames::any_frame(), any::<[u32; 3]>().prop_map(small));
+    suite.property(
+        "read: a walk begun anywhere",
+        part(1),
+        &cursors,
+        codec::walks_anywhere,
+    );
+    suite.property(
+        "write: orders of all kinds",
+        part(3),
+        &codec::orders(),
+        |order| codec::writes_alike(order, &mut write),
+    );
+    suite.property(
+        "what is written is read",
+        part(1),
+        &frames::plain(),
+        codec::written_is_read,
+    );
+    suite.property(
+        "what is read is written",
+        part(1),
+        &frames::plain(),
+        codec::read_is_written,
+    );
+    println!("frames compared: {}", part(2) * 3 + part(1) * 3 + part(3));
+    suite.covers("Reading", &read, &codec::READ);
+    suite.covers("Writing", &write, &codec::WRITE);
+}
+
+/// A cursor that may lie in a frame.
+fn small([long, place, left]: [u32; 3]) -> [u32; 3] {
+    let place = if place % 8 == 0 { place } else { place % 1_024 };
+    let left = if left % 8 == 0 { left } else { left % 200 };
+    [long % 3, place, left]
+}
+
+/// The keeper through the boundary.
+fn keepers(suite: &mut Suite, least: u64) {
+    let mut table = Table::default();
+    let calls = Cell::new(0);
+    let mut alike = |script: &Script| {
+        let made = keeper::alike(script, &mut table)?;
+        calls.set(calls.get() + made);
+        Ok(())
+    };
+    suite.property(
+        "keeper: calls that aim at nothing",
+        300,
+        &scripts::random(20..400),
+        &mut alike,
+    );
+    suite.property("keeper: a turn of the numbers", 1, &Aim::Turn, &mut alike);
+    // About half of a script's lines are the keeper's.
+    let cases = least.div_ceil(SCRIPT as u64 / 2) as u32;
+    suite.property(
+        "keeper: aimed calls",
+        cases,
+        &Aim::Moods(SCRIPT),
+        &mut alike,
+    );
+    let garbage = RefCell::new(0);
+    suite.property(
+        "keeper: states of garbage",
+        20_000,
+        &keeper::garbage(),
+        |case| {
+            *garbage.borrow_mut() += keeper::survives(case)?;
+            Ok(())
+        },
+    );
+    println!(
+        "keeper calls compared: {}; on garbage: {}",
+        calls.get(),
+        garbage.borrow()
+    );
+    suite.check("keeper: enough calls", calls.get() >= least);
+    suite.covers("Keeper through the boundary", &table, &keeper::REFUSALS);
+}
+
+/// Both ends through two makes of `replay`.
+fn replays(suite: &mut Suite, name: &str, programs: [&Path; 2], least: u64) {
+    let mut table = Table::default();
+    let lines = Cell::new(0_u64);
+    let mut alike = |script: &Script| {
+        replay::alike(programs, script, &mut table)?;
+        lines.set(lines.get() + script.0.len() as u64);
+        Ok(())
+    };
+    let random = least.div_ceil(50_000) as u32;
+    let titled = |what: &str| format!("{name}: {what}");
+    suite.property(
+        &titled("lines that aim at nothing"),
+        random,
+        &scripts::random(500..2_000),
+        &mut alike,
+    );
+    suite.property(&titled("a turn of the numbers"), 1, &Aim::Turn, &mut alike);
+    suite.property(&titled("forgotten losses"), 1, &Aim::Forgotten, &mut alike);
+    let left = least.saturating_sub(lines.get());
+    let cases = left.div_ceil(SCRIPT as u64).max(4) as u32;
+    suite.property(
+        &titled("aimed scripts"),
+        cases,
+        &Aim::Moods(SCRIPT),
+        &mut alike,
+    );
+    println!("{name}: calls compared: {}", lines.get());
+    suite.check(&titled("enough calls"), lines.get() >= least);
+    suite.covers(name, &table, &codec::all_numbers());
+}
+
+/// Demand 3 on the product's own traces.
+fn demand_3(suite: &mut Suite, programs: [&Path; 2], cases: u32) {
+    let (lines, freed, lost) = (Cell::new(0), Cell::new(0), Cell::new(0));
+    let bearers = (openings(6), vec(steps(), 1..120));
+    suite.property("demand 3 on traces", cases, &bearers, |(opening, steps)| {
+        let mut bearer = Bearer::new(*opening);
+        for step in steps {
+            bearer.make(step)?;
+        }
+        let trace = bearer.trace;
+        let answers = replay::answers_alike(programs, &Script(trace.lines.clone()))?;
+        let tally = trace.check(&answers)?;
+        lines.set(lines.get() + answers.len());
+        freed.set(freed.get() + tally.freed);
+        lost.set(lost.get() + tally.reported);
+        Ok(())
+    });
+    println!(
+        "demand 3: {} calls, {} packets freed, {} reported lost",
+        lines.get(),
+        freed.get(),
+        lost.get()
+    );
+    suite.check(
+        "demand 3: packets were freed and lost",
+        freed.get() > 0 && lost.get() > 0,
+    );
+}

@@ -1,0 +1,256 @@
+//! The product's keeper beside the library's, call by call through the C
+//! boundary, with the whole state compared after each.
+
+use crate::scripts::Script;
+use crate::suite::Verdict;
+use programs::replay::{Call, MOST_ROOM};
+use proptest::prelude::*;
+use soak::table::Table;
+use x2u::frame::LONGEST;
+use x2u::{Answer, Keeper, Refusal};
+
+/// The keeper's refusals.
+pub const REFUSALS: [u8; 12] = [7, 9, 10, 11, 12, 13, 14, 15, 16, 17, 20, 22];
+
+fn number(answer: Answer<u32>) -> i64 {
+    match answer {
+        Ok(answer) => answer.into(),
+        Err(refusal) => -i64::from(refusal.number()),
+    }
+}
+
+/// Both keepers of one bearer.
+struct Both {
+    /// None until an open is accepted.
+    library: Option<Keeper>,
+    product: Box<boundary::Keeper>,
+}
+
+/// Plays the keeper's calls of a script on both. Answers how many there were.
+pub fn alike(script: &Script, table: &mut Table) -> Result<u64, String> {
+    let mut both = Both {
+        library: None,
+        product: Box::new(boundary::Keeper::of(0)),
+    };
+    let mut calls = 0;
+    let mut room = [0; LONGEST];
+    for line in &script.0 {
+        if let Some(call) = Call::of_line(line, &mut room)
+            && let Some((word, answer)) = both.make(&call)?
+        {
+            let text = if answer < 0 {
+                format!("refused\t{}", -answer)
+            } else {
+                format!("{word} done")
+            };
+            table.count(word.as_bytes(), text.as_bytes());
+            calls += 1;
+        }
+    }
+    Ok(calls)
+}
+
+impl Both {
+    /// Makes a call, if it is one on an open keeper, or an open.
+    fn make(&mut self, call: &Call<'_>) -> Result<Option<(&'static str, i64)>, String> {
+        let before = self.product.clone();
+        let (word, wanted, got) = match *call {
+            Call::Open([length, first, pdcp]) => {
+                let opened = Keeper::open(length, first, pdcp);
+                let wanted = opened.as_ref().map(|_| 0).map_err(|refusal| *refusal);
+                if let Ok(opened) = opened {
+                    self.library = Some(opened);
+                }
+                ("open", wanted, self.product.open(length, first, pdcp))
+            }
+            _ => match self.on_open(call)? {
+                Some(made) => made,
+                None => return Ok(None),
+            },
+        };
+        if number(wanted) != got {
+            return Err(format!(
+                "{call:?}: the library {wanted:?}, the product {got}"
+            ));
+        }
+        if got < 0 && self.product != before {
+            return Err(format!(
+                "{call:?} is refused with {got}, and the state changes"
+            ));
+        }
+        self.compare()
+            .map_err(|what| format!("after {call:?}: {what}"))?;
+        Ok(Some((word, got)))
+    }
+
+    fn on_open(&mut self, call: &Call<'_>) -> Result<Option<Made>, String> {
+        let (Some(library), product) = (&mut self.library, &mut self.product) else {
+            return Ok(None);
+        };
+        Ok(Some(match *call {
+            Call::Arrive([n, p]) => ("arrive", library.arrive(n, p), product.arrive(n, p)),
+            Call::Expire => ("expire", library.expire(), product.expire()),
+            Call::Confirm(n) => (
+                "confirm",
+                library.confirm(n).map(|()| 0),
+                product.confirm(n),
+            ),
+            Call::Status {
+                desired,
+                minimum,
+                is_final,
+                room,
+            } => {
+                let mut lent = [[0x5A; MOST_ROOM]; 2];
+                let [ours, theirs] = &mut lent;
+                let wanted = library.status(desired, minimum, is_final, &mut ours[..room]);
+                let got = product.status(desired, minimum, is_final, &mut theirs[..room]);
+                if ours != theirs {
+                    return Err(format!("{call:?}: the buffers differ"));
+                }
+                ("status", wanted.map(|length| length as u32), got)
+            }
+            _ => return Ok(None),
+        }))
+    }
+
+    /// All that the library's keeper shows stands in the product's arrays.
+    fn compare(&self) -> Verdict {
+        let Some(library) = &self.library else {
+            return Ok(());
+        };
+        let product = &*self.product;
+        let [_, base, reported, closed, runs, records] = product.words;
+        let wanted = [
+            library.base(),
+            library.reported_highest(),
+            library.is_closed().into(),
+            library.listed_runs().len() as u32,
+            library.record_count() as u32,
+        ];
+        let got = [base, reported, closed, runs, records];
+        if wanted != got {
+            return Err(format!(
+                "the library's words are {wanted:?}, the product's {got:?}"
+            ));
+        }
+        let listed = library.listed_runs().iter();
+        let listed = listed.zip(product.starts.iter().zip(&product.ends));
+        for (run, pair) in listed {
+            if (&run.start, &run.end) != pair {
+                return Err(format!("the library lists {run:?}, the product {pair:?}"));
+            }
+        }
+        let arrays = product
+            .numbers
+            .iter()
+            .zip(&product.pdcps)
+            .zip(&product.marks);
+        for (record, ((&number, &pdcp), &mark)) in library.records().zip(arrays) {
+            if (record.number, record.pdcp, record.confirmed) != (number, pdcp, mark != 0) {
+                return Err(format!(
+                    "the library holds {record:?}, the product {number}:{pdcp}:{mark}"
+                ));
+            }
+        }
+        Ok(())
+    }
+}
+
+/// A call's word, the library's answer and the product's.
+type Made = (&'static str, Answer<u32>, i64);
+
+/// A state that no call left behind, and calls on it.
+#[derive(Clone, Debug)]
+pub struct Garbage {
+    fill: u32,
+    places: Vec<(usize, u32)>,
+    words: [u32; 6],
+    number: u32,
+    pdcp: u32,
+    room: usize,
+}
+
+/// States of garbage: words of any kind, arrays of one number but for some
+/// places.
+pub fn garbage() -> impl Strategy<Value = Garbage> {
+    let word = || {
+        prop_oneof![
+            2 => prop::sample::select(vec![0_u32, 1, 12, 15, 18, 161, 162, 163, 255, 256, 257, 511, 512, 513]),
+            2 => 0_u32..70_000,
+            1 => any::<u32>(),
+            1 => Just(u32::MAX),
+        ]
+    };
+    let words = [word(), word(), word(), word(), word(), word()];
+    let places = prop::collection::vec((0_usize..2_048, word()), 0..40);
+    let lengths = prop::sample::select(vec![0_u32, 12, 15, 18, 40]);
+    (
+        word(),
+        places,
+        (words, lengths),
+        word(),
+        word(),
+        0_usize..1_020,
+    )
+        .prop_map(|(fill, places, (words, length), number, pdcp, room)| {
+            let mut words = words;
+            words[0] = length;
+            Garbage {
+                fill,
+                places,
+                words,
+                number,
+                pdcp,
+                room,
+            }
+        })
+}
+
+/// Every call on garbage answers something that it may, and a refusal changes
+/// nothing. Answers how many calls that were.
+pub fn survives(garbage: &Garbage) -> Result<u64, String> {
+    let mut state = Box::new(boundary::Keeper::of(garbage.fill));
+    for &(place, word) in &garbage.places {
+        let of = place % 512;
+        match place / 512 {
+            0 => state.numbers[of] = word,
+            1 => state.pdcps[of] = word,
+            2 => state.marks[of] = word,
+            _ if of < 256 => state.starts[of] = word,
+            _ => state.ends[of - 256] = word,
+        }
+    }
+    state.words = garbage.words;
+    let (number, pdcp) = (garbage.number, garbage.pdcp);
+    let mut buffer = vec![0x5A; garbage.room];
+    type Calls<'a> = [(&'a str, &'a mut dyn FnMut(&mut boundary::Keeper) -> i64); 5];
+    let calls: Calls<'_> = [
+        ("arrive", &mut |state| state.arrive(number, pdcp)),
+        ("expire", &mut |state| state.expire()),
+        ("confirm", &mut |state| state.confirm(number)),
+        ("status", &mut |state| {
+            state.status(number, pdcp, pdcp % 2 == 1, &mut buffer)
+        }),
+        ("open", &mut |state| {
+            state.open(garbage.words[0], number, pdcp)
+        }),
+    ];
+    let count = calls.len() as u64;
+    for (word, call) in calls {
+        let mut after = state.clone();
+        let answer = call(&mut after);
+        let known = Refusal::ALL
+            .iter()
+            .any(|refusal| -i64::from(refusal.number()) == answer);
+        if answer < 0 && !known {
+            return Err(format!("{word} answers {answer}"));
+        }
+        if answer < 0 && after != state {
+            return Err(format!(
+                "{word} is refused with {answer}, and the state changes"
+            ));
+        }
+    }
+    Ok(count)
+}
