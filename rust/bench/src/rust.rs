@@ -1,7 +1,7 @@
 //! The library here, as a [`Side`]. Nothing is inlined into a benchmark, since
 //! nothing could be across a C boundary.
 
-use crate::{Form, Range, Report, Side};
+use crate::{Form, List, REPORT, Report, Side};
 use x2u::frame::{self, Frame};
 use x2u::{Answer, Keeper, Ledger};
 
@@ -22,7 +22,6 @@ fn length(answer: Answer<usize>) -> i64 {
 impl Side for Rust {
     const NAME: &'static str = "rust";
     type Keeper = Keeper;
-    type Ledger = Ledger;
 
     #[inline(never)]
     fn read(octets: &[u8]) -> i64 {
@@ -43,8 +42,8 @@ impl Side for Rust {
     }
 
     #[inline(never)]
-    fn write_status(form: Form, report: &Report, ranges: &[Range], buffer: &mut [u8]) -> i64 {
-        length(frame::write_status(form, report, ranges, buffer))
+    fn write_status(form: Form, report: &Report, list: &List, buffer: &mut [u8]) -> i64 {
+        length(frame::write_status(form, report, &list.ranges, buffer))
     }
 
     fn keeper(pdcp_bits: u32, first: u32, first_pdcp: u32) -> Keeper {
@@ -57,28 +56,33 @@ impl Side for Rust {
     }
 
     #[inline(never)]
+    fn expire(keeper: &mut Keeper) -> i64 {
+        number(keeper.expire())
+    }
+
+    #[inline(never)]
     fn confirm(keeper: &mut Keeper, number_: u32) -> i64 {
         number(keeper.confirm(number_).map(|()| 0_u32))
     }
 
     #[inline(never)]
     fn status(keeper: &mut Keeper, buffer: &mut [u8]) -> i64 {
-        length(keeper.status(REPORT_SIZES.0, REPORT_SIZES.1, false, buffer))
-    }
-
-    fn ledger(pdcp_bits: u32, first: u32, first_pdcp: u32) -> Ledger {
-        Ledger::open(pdcp_bits, first, first_pdcp).expect("benchmarks open well")
+        length(keeper.status(REPORT.desired, REPORT.minimum, false, buffer))
     }
 
     #[inline(never)]
-    fn send(ledger: &mut Ledger, pdcp: u32) -> i64 {
-        number(ledger.send(pdcp))
-    }
-
-    #[inline(never)]
-    fn accept(ledger: &mut Ledger, octets: &[u8]) -> i64 {
-        number(ledger.accept(octets).map(|settled| settled.freed))
+    fn accepts(pdcp_bits: u32, entries: u32, turns: u32, octets: &[u8]) -> u32 {
+        let mut ledger = Ledger::open(pdcp_bits, 0, 0).expect("benchmarks open well");
+        for pdcp in 0..entries {
+            ledger.send(pdcp).expect("benchmarks send in order");
+        }
+        let mut last = 0;
+        for _ in 0..turns {
+            last = match ledger.accept(octets) {
+                Ok(settled) => settled.freed,
+                Err(refusal) => refusal.number().into(),
+            };
+        }
+        last
     }
 }
-
-const REPORT_SIZES: (u32, u32) = (crate::REPORT.desired, crate::REPORT.minimum);

@@ -185,17 +185,3 @@ impl Keeper {
         }
     }
 }
-
-/// Opens a ledger, sends `entries` packets, and accepts `frame` so many times.
-#[inline]
-pub fn ledger_accepts(length: u32, entries: u32, turns: u32, frame: &[u8]) -> u32 {
-    // SAFETY: pointer and length are those of one slice.
-    unsafe { foreign::probe_ledger_accept(length, entries, turns, frame.as_ptr(), frame.len()) }
-}
-
-/// Opens a ledger and sends so many packets.
-#[inline]
-pub fn ledger_sends(length: u32, turns: u32) -> u32 {
-    // SAFETY: numbers only.
-    unsafe { foreign::probe_ledger_send(length, turns) }
-}

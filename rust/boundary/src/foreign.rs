@@ -1,4 +1,5 @@
 //! The declarations, as the product's header has them.
+#![allow(unsafe_code)]
 
 pub type Records = [u32; 512];
 pub type Runs = [u32; 256];
@@ -78,12 +79,4 @@ unsafe extern "C" {
         dst: *mut u8,
         dst_len: usize,
     ) -> i64;
-    pub fn probe_ledger_accept(
-        length: u32,
-        entries: u32,
-        turns: u32,
-        frame: *const u8,
-        frame_len: usize,
-    ) -> u32;
-    pub fn probe_ledger_send(length: u32, turns: u32) -> u32;
 }

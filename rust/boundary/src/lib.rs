@@ -10,8 +10,10 @@
 mod calls;
 #[cfg(feature = "product")]
 mod foreign;
+#[cfg(feature = "probe")]
+mod probe;
 
 #[cfg(feature = "product")]
-pub use calls::{
-    Keeper, first_range, ledger_accepts, ledger_sends, next_range, read, write_data, write_status,
-};
+pub use calls::{Keeper, first_range, next_range, read, write_data, write_status};
+#[cfg(feature = "probe")]
+pub use probe::{ledger_accepts, ledger_sends};

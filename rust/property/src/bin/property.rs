@@ -67,7 +67,7 @@ fn run() -> Result<bool, String> {
     keepers(&mut suite, least_calls);
     let programs = [library.as_path(), product.as_path()];
     replays(&mut suite, "replay", programs, least_calls);
-    demand_3(&mut suite, programs, (least_calls / 20_000) as u32 + 1);
+    demand_3(&mut suite, programs, (least_calls / 2_000) as u32 + 1);
     if shipped.as_os_str().is_empty() {
         println!("\nno shipped build was given");
     } else {

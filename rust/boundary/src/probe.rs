@@ -1,0 +1,30 @@
+//! The product's ledger, by the probe that makes calls on one: a ledger is
+//! passed by value and can't cross the boundary itself.
+#![allow(unsafe_code)]
+
+unsafe extern "C" {
+    fn probe_ledger_accept(
+        length: u32,
+        entries: u32,
+        turns: u32,
+        frame: *const u8,
+        frame_len: usize,
+    ) -> u32;
+    fn probe_ledger_send(length: u32, turns: u32) -> u32;
+}
+
+/// Opens a ledger, sends `entries` packets, and accepts `frame` so many times.
+#[inline]
+#[must_use]
+pub fn ledger_accepts(length: u32, entries: u32, turns: u32, frame: &[u8]) -> u32 {
+    // SAFETY: pointer and length are those of one slice.
+    unsafe { probe_ledger_accept(length, entries, turns, frame.as_ptr(), frame.len()) }
+}
+
+/// Opens a ledger and sends so many packets.
+#[inline]
+#[must_use]
+pub fn ledger_sends(length: u32, turns: u32) -> u32 {
+    // SAFETY: numbers only.
+    unsafe { probe_ledger_send(length, turns) }
+}
