@@ -31,6 +31,7 @@ const ARRIVALS: u32 = 64;
 pub fn cases<S: Side>() -> Vec<Case> {
     let mut cases = Vec::new();
     codec::<S>(&mut cases);
+    apart::<S>(&mut cases);
     lengths::<S>(&mut cases);
     keeper::<S>(&mut cases);
     ledger::<S>(&mut cases);
@@ -103,6 +104,22 @@ fn codec<S: Side>(cases: &mut Vec<Case>) {
                 format!("write status, {name} form, {count} ranges"),
                 write,
             );
+        }
+    }
+}
+
+/// Reading with a call for each range on both sides.
+fn apart<S: Side>(cases: &mut Vec<Case>) {
+    for (name, form) in FORMS {
+        for count in [3, 162] {
+            let octets = status_frame(form, &REPORT, &List::of(count).ranges);
+            cases.push(Case {
+                id: format!("apart-{name}-{count}"),
+                title: format!("read status, {name} form, {count} ranges"),
+                table: "apart",
+                goal: None,
+                run: pure(move || S::read_apart(black_box(&octets))),
+            });
         }
     }
 }

@@ -28,6 +28,9 @@ pub trait Side: 'static {
     /// Reads a frame to its last range and answers a sum over all its fields,
     /// so that none of them can be left unread.
     fn read(octets: &[u8]) -> i64;
+    /// The same with a call for each range, which can't be inlined, as there is
+    /// one across a C boundary in any case.
+    fn read_apart(octets: &[u8]) -> i64;
     /// Writes a data frame.
     fn write_data(form: Form, number: u32, buffer: &mut [u8]) -> i64;
     /// Writes a status.

@@ -25,6 +25,10 @@ impl Side for Rattle {
         }
     }
 
+    fn read_apart(octets: &[u8]) -> i64 {
+        Self::read(octets)
+    }
+
     #[inline(never)]
     fn write_data(form: Form, number: u32, buffer: &mut [u8]) -> i64 {
         boundary::write_data(form == Form::Long, number, buffer)

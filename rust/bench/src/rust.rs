@@ -1,8 +1,8 @@
 //! The library here, as a [`Side`]. Nothing is inlined into a benchmark, since
 //! nothing could be across a C boundary.
 
-use crate::{Form, List, REPORT, Report, Side};
-use x2u::frame::{self, Frame};
+use crate::{Form, List, REPORT, Range, Report, Side};
+use x2u::frame::{self, Frame, Ranges};
 use x2u::{Answer, Keeper, Ledger};
 
 /// The Rust library.
@@ -19,21 +19,42 @@ fn length(answer: Answer<usize>) -> i64 {
     number(answer.map(|length| length as u32))
 }
 
+/// A sum over all fields, the ranges taken one after another.
+#[inline(always)]
+fn sum(octets: &[u8], next: impl Fn(&mut Ranges<'_>) -> Option<Range>) -> i64 {
+    match frame::read(octets) {
+        Frame::Data { number, .. } => i64::from(number),
+        Frame::Status {
+            report, mut ranges, ..
+        } => {
+            let mut sum = i64::from(report.highest);
+            sum += i64::from(report.desired) + i64::from(report.minimum);
+            while let Some(range) = next(&mut ranges) {
+                sum += i64::from(range.start) + i64::from(range.end);
+            }
+            sum
+        }
+        Frame::Refused(refusal) => -i64::from(refusal.number()),
+    }
+}
+
+#[inline(never)]
+fn next_range(ranges: &mut Ranges<'_>) -> Option<Range> {
+    ranges.next()
+}
+
 impl Side for Rust {
     const NAME: &'static str = "rust";
     type Keeper = Keeper;
 
     #[inline(never)]
     fn read(octets: &[u8]) -> i64 {
-        match frame::read(octets) {
-            Frame::Data { number, .. } => i64::from(number),
-            Frame::Status { report, ranges, .. } => {
-                let sums = ranges.map(|range| i64::from(range.start) + i64::from(range.end));
-                let sizes = i64::from(report.desired) + i64::from(report.minimum);
-                sums.sum::<i64>() + sizes + i64::from(report.highest)
-            }
-            Frame::Refused(refusal) => -i64::from(refusal.number()),
-        }
+        sum(octets, |ranges| ranges.next())
+    }
+
+    #[inline(never)]
+    fn read_apart(octets: &[u8]) -> i64 {
+        sum(octets, next_range)
     }
 
     #[inline(never)]

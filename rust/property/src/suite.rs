@@ -70,8 +70,9 @@ impl Suite {
             }
             Err(TestError::Fail(why, case)) => {
                 self.failed += 1;
+                let (why, case) = (cut(&why.to_string()), cut(&format!("{case:?}")));
                 println!(
-                    "FAILS   {name} (seed {}): {why}\nsmallest case: {case:?}",
+                    "FAILS   {name} (seed {}): {why}\nsmallest case: {case}",
                     self.seed
                 );
             }
@@ -105,5 +106,13 @@ impl Suite {
             &format!("{name}: each of the {} refusals was given", wanted.len()),
             missing.is_empty(),
         );
+    }
+}
+
+/// A text, cut where it would fill pages.
+fn cut(text: &str) -> String {
+    match text.char_indices().nth(4_000) {
+        Some((end, _)) => format!("{} ...", &text[..end]),
+        None => text.to_owned(),
     }
 }

@@ -116,7 +116,8 @@ fn demand_3_is_told_from_answers_alone() {
     );
 
     // Each of these lies is a violation, at whatever line the answer stands.
-    let lies: [(&str, fn(&str) -> String); 6] = [
+    type Lie = fn(&str) -> String;
+    let lies: [(&str, Lie); 6] = [
         ("sent", |answer| answer.replace("65530", "65531")),
         ("lost", |answer| answer.replace("\t2", "\t1")),
         ("frame", |answer| answer.replace("02fffa", "02fffb")),

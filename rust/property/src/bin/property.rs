@@ -66,17 +66,13 @@ fn run() -> Result<bool, String> {
     codecs(&mut suite, least_frames);
     keepers(&mut suite, least_calls);
     let programs = [library.as_path(), product.as_path()];
-    replays(&mut suite, "replay", programs, least_calls);
+    replays(&mut suite, "replay", programs, least_calls, true);
     demand_3(&mut suite, programs, (least_calls / 2_000) as u32 + 1);
     if shipped.as_os_str().is_empty() {
         println!("\nno shipped build was given");
     } else {
-        replays(
-            &mut suite,
-            "shipped replay",
-            [&library, &shipped],
-            shipped_calls,
-        );
+        let programs = [library.as_path(), shipped.as_path()];
+        replays(&mut suite, "shipped replay", programs, shipped_calls, false);
     }
     println!("{} passed, {} failed", suite.passed, suite.failed);
     Ok(suite.failed == 0)
@@ -182,8 +178,9 @@ fn keepers(suite: &mut Suite, least: u64) {
     suite.covers("Keeper through the boundary", &table, &keeper::REFUSALS);
 }
 
-/// Both ends through two makes of `replay`.
-fn replays(suite: &mut Suite, name: &str, programs: [&Path; 2], least: u64) {
+/// Both ends through two makes of `replay`; `long` scripts too, in which the
+/// numbers turn.
+fn replays(suite: &mut Suite, name: &str, programs: [&Path; 2], least: u64, long: bool) {
     let mut table = Table::default();
     let lines = Cell::new(0_u64);
     let mut alike = |script: &Script| {
@@ -191,21 +188,21 @@ fn replays(suite: &mut Suite, name: &str, programs: [&Path; 2], least: u64) {
         lines.set(lines.get() + script.0.len() as u64);
         Ok(())
     };
-    let random = least.div_ceil(50_000) as u32;
     let titled = |what: &str| format!("{name}: {what}");
+    if long {
+        suite.property(&titled("a turn of the numbers"), 1, &Aim::Turn, &mut alike);
+        suite.property(&titled("forgotten losses"), 1, &Aim::Forgotten, &mut alike);
+    }
     suite.property(
         &titled("lines that aim at nothing"),
-        random,
+        least.div_ceil(50_000) as u32,
         &scripts::random(500..2_000),
         &mut alike,
     );
-    suite.property(&titled("a turn of the numbers"), 1, &Aim::Turn, &mut alike);
-    suite.property(&titled("forgotten losses"), 1, &Aim::Forgotten, &mut alike);
     let left = least.saturating_sub(lines.get());
-    let cases = left.div_ceil(SCRIPT as u64).max(4) as u32;
     suite.property(
         &titled("aimed scripts"),
-        cases,
+        left.div_ceil(SCRIPT as u64) as u32 + 1,
         &Aim::Moods(SCRIPT),
         &mut alike,
     );

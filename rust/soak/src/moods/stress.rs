@@ -2,16 +2,21 @@
 
 use crate::script::Script;
 use x2u::Form;
+use x2u::frame::MOST_RANGES;
 
 /// Every second number arrives, until no more runs can be listed; then
 /// statuses, in buffers long enough and not.
 pub(super) fn runs(script: &mut Script) {
-    let runs = script.rng.pick(&[100, 250, 300, 350, 420]);
-    for _ in 0..runs {
-        let ahead = script.rng.pick(&[1, 1, 1, 1, 2, 3, 256, 258]);
-        script.arrive_ahead(ahead);
-        if script.rng.chance(60) {
-            script.expire();
+    if script.rng.chance(30) {
+        around_a_frame(script);
+    } else {
+        let runs = script.rng.pick(&[100, 250, 300, 350, 420]);
+        for _ in 0..runs {
+            let ahead = script.rng.pick(&[1, 1, 1, 1, 2, 3, 256, 258]);
+            script.arrive_ahead(ahead);
+            if script.rng.chance(60) {
+                script.expire();
+            }
         }
     }
     // With all confirmed, only a run left out holds the highest back.
@@ -21,6 +26,18 @@ pub(super) fn runs(script: &mut Script) {
         short_rooms(script);
         script.status(false, 1_018);
         script.expire();
+    }
+}
+
+/// As many runs as a frame carries, or one or two less or more.
+fn around_a_frame(script: &mut Script) {
+    let wanted = script.rng.place(5) + MOST_RANGES - 2;
+    // The stores may be full, or the end closed.
+    for _ in 0..wanted {
+        if script.ends.keeper.listed_runs().len() < wanted {
+            script.arrive_ahead(1);
+            script.expire();
+        }
     }
 }
 
