@@ -48,6 +48,10 @@ enum {
  * PDCP number, desired size, minimum size, Final as 0 or 1, and how many ranges. Every other field is 0. */
 int64_t x2u_read(const uint8_t *frame, size_t length, uint32_t fields[6]);
 
+/* The same with all ranges of a status in one call: they stand at the front of starts and ends, whose other places stay as
+ * they were. */
+int64_t x2u_read_all(const uint8_t *frame, size_t length, uint32_t fields[6], uint32_t starts[162], uint32_t ends[162]);
+
 /* How many ranges a frame has, which for data is none; the cursor stands before the first. */
 int64_t x2u_first_range(const uint8_t *frame, size_t length, uint32_t cursor[3]);
 

@@ -6,16 +6,17 @@ use mathlib.Core.List.{List, [], _∷_}
 use mathlib.Core.Path.{_≡_, refl, sym, _∙_, ap}
 use Prim.Native.Nat.{ℕ, zero, suc, _+_, _-_, _*_, _%_, _≤_, _<_}
 use native.Mathlib.Omega.{arith}
-use borrow.Author.Tests.{le-ltb}
-use lib.Dec.{ltb, eqb·suc-zero}
+use borrow.Author.Tests.{le-ltb, ltb-false}
+use lib.Dec.{ltb, eqb, eqb·suc-zero}
 use lib.ListN.{length, getD}
 use Rattle.layout.specs.Basics.{if_then_else_}
 use Rattle.layout.specs.Octets.{field}
-use Rattle.layout.specs.Frames.{Range, Status, status-of, width, modulus, listAt, countAt, rangesAt, readFrame, listedIn, countIn}
+use Rattle.layout.specs.Frames.{Range, Status, status-of, mostRanges, width, modulus, listAt, countAt, rangesAt, readFrame, listedIn, countIn}
 use Rattle.layout.proofs.Octets.{AreOctets, field-below, length-rangesAt}
 use Rattle.layout.proofs.Padding.{GoodLength}
 use Rattle.layout.proofs.Frame.{Frame as Framed, status-frame, readingOf as meant}
-use Rattle.layout.proofs.Read.{Read, as-data, as-status, frame-read}
+use Rattle.layout.proofs.Basics.{or-false}
+use Rattle.layout.proofs.Read.{countRefused, Read, as-data, as-status, frame-read}
 use Rattle.reader.specs.declared.Head.{Head}
 use Rattle.reader.specs.declared.Frame.the-variants as frame
 use Rattle.reader.specs.declared.Cursor.{Cursor}
@@ -133,6 +134,23 @@ held-read s h f e g (as-status long t fits) =
     let form : h .long ≡ long = sym (ap (λ (x : Status). x .long) same) in
     let count : h .count ≡ countIn s w = sym (length-rangesAt s _ _ (h .count)) ∙ ap (λ (x : Status). length (x .ranges)) (sym same) ∙ length-rangesAt s _ _ (countIn s w) in
     rw (form, count) (list-held long (listedIn s) (getD s (countAt w) 0) (length s) (g .phase) (fits .list-in))
+
+-- 5 refuses any count above 162
+few-at : (listed : Bool) (n : ℕ) → countRefused listed (if listed then n else 0) ≡ false → (if listed then n else 0) ≤ mostRanges
+few-at true n e = ltb-false mostRanges n (or-false (eqb n 0) (ltb mostRanges n) e .1)
+few-at false n e = omega arith
+
+few-read : (s : List ℕ) (h : Head) (f : Framed) → meant f ≡ readingOf s (frame.Status h) → Read s f → h .count ≤ mostRanges
+few-read s h f e (as-data long t) = apart (cc)
+few-read s h f e (as-status long t fits) =
+    let w = width long in
+    let same = same-status _ _ e in
+    let count : h .count ≡ countIn s w = sym (length-rangesAt s _ _ (h .count)) ∙ ap (λ (x : Status). length (x .ranges)) (sym same) ∙ length-rangesAt s _ _ (countIn s w) in
+    rw count (few-at (listedIn s) (getD s (countAt w) 0) (fits .count-in))
+
+-- a status that was read has no more ranges than a frame carries
+pub few-ranges : (s : List ℕ) (h : Head) → readingOf s (frame.Status h) ≡ readFrame s → h .count ≤ mostRanges
+few-ranges s h e = few-read s h (status-frame _) refl (frame-read s (status-frame _) (sym e) .1)
 
 -- the frame holds the ranges from the first cursor on
 pub held-first : (s : List ℕ) (h : Head) → readingOf s (frame.Status h) ≡ readFrame s → Held s (cursorOf h)

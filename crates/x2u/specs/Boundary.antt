@@ -1,12 +1,14 @@
 -- What the C boundary answers and leaves, by the definitions that the contracts of the crates below it cite.
 -- An answer is one integer: from 0 on what document 01 answers, below 0 a refusal.
 -- Assumes nothing.
-use mathlib.Core.List.{List, [], _∷_}
+use mathlib.Core.List.{List, [], _∷_, map}
 use Prim.Native.Nat.{ℕ}
 use lib.Dec.{ltb}
 use lib.IntN.{ℤ, pos, negℤ}
 use lib.ListN.{length, getD}
+use lib.Seq.{sets}
 use Rattle.layout.specs.Basics.{if_then_else_, bit, Outcome, done, refused}
+use Rattle.layout.specs.Frames as frames
 use Rattle.layout.specs.Frames.{Reading, data-of, status-of, refuse, Written, dataType, statusType, width, listAt, mostOctets}
 use Rattle.bearer.specs.Bearer.{After}
 use Rattle.bearer.specs.Keeper.{Keeper, Reported}
@@ -65,6 +67,22 @@ abbrev pub reads : List ℕ → Reading → Left (List ℕ)
 reads old (data-of long n) = leaves (pos (dataType long)) (n ∷ 0 ∷ 0 ∷ 0 ∷ 0 ∷ 0 ∷ [])
 reads old (status-of s) = leaves (pos (statusType (s .long))) (s .highest ∷ s .desired ∷ s .minimum ∷ bit (s .final) ∷ length (s .ranges) ∷ 0 ∷ [])
 reads old (refuse n) = leaves (minus n) old
+
+-- the first and the last numbers of ranges
+abbrev pub startsOf : List frames.Range → List ℕ
+startsOf rs = map (λ (r : frames.Range). r .start) rs
+
+abbrev pub endsOf : List frames.Range → List ℕ
+endsOf rs = map (λ (r : frames.Range). r .end) rs
+
+-- the type and the fields, and the ranges of a status at the front of two arrays, in place of what was there. A refusal leaves
+-- what was there.
+abbrev pub readsAll : List ℕ → List ℕ → List ℕ → Reading → Left (List ℕ × List ℕ × List ℕ)
+readsAll old starts ends (data-of long n) = leaves (pos (dataType long)) (n ∷ 0 ∷ 0 ∷ 0 ∷ 0 ∷ 0 ∷ [], starts, ends)
+readsAll old starts ends (status-of s) =
+    leaves (pos (statusType (s .long)))
+    (s .highest ∷ s .desired ∷ s .minimum ∷ bit (s .final) ∷ length (s .ranges) ∷ 0 ∷ [], sets starts 0 (startsOf (s .ranges)), sets ends 0 (endsOf (s .ranges)))
+readsAll old starts ends (refuse n) = leaves (minus n) (old, starts, ends)
 
 -- a cursor is three words: its form, its place, and how many ranges are left
 abbrev pub cursorIn : List ℕ → Cursor

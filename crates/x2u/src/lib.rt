@@ -3,14 +3,16 @@
 // 0 or not 0, since a `bool` that C made is undefined where its octet is neither 0 nor 1. include/x2u.h has C's side.
 ghost use mathlib.Core.Path.{_≡_};
 ghost use mathlib.Core.List.{[], _∷_};
-ghost use Prim.Native.Nat.{ℕ, _^_, _<_};
+ghost use Prim.Native.Nat.{ℕ, _^_, _≤_, _<_};
 ghost use lib.IntN.{pos, negsuc, _-ℤ_};
 ghost use lib.ListN.{length};
+ghost use lib.Seq.{sets};
 ghost use Rattle.layout.specs.Basics.{bit};
 ghost use Rattle.layout.specs.Frames.{dataType, statusType, rangesOf, readFrame, writeData, writeStatus};
 ghost use Rattle.bearer.specs.Keeper.{openKeeper, arrive, expire, confirm, status};
+ghost use Rattle.reader.specs.Answers.{ahead, Held};
 ghost use Rattle.keeper.specs.View.{isSet, keeperIn, opensInto, arrays};
-ghost use Rattle.x2u.specs.Boundary.{minus, leaves, writes, counts, settles, reports, reads, cursorIn, begins, stepIn, steps};
+ghost use Rattle.x2u.specs.Boundary.{minus, leaves, writes, counts, settles, reports, reads, startsOf, endsOf, readsAll, cursorIn, begins, stepIn, steps};
 
 const MOST_OCTETS: usize = 1018; // the greatest length of a frame
 
@@ -39,6 +41,53 @@ pub extern "C" fn x2u_read(frame: &[u8], fields: &mut [u32; 6]) -> i64
             status_type(head.long)
         }
         reader::Frame::Refused(n) => refused(n),
+    }
+}
+
+// Reads a frame with all its ranges in one call: the type and the fields as x2u_read has them, and the ranges at the front of
+// starts and ends, whose other places stay as they were.
+#[no_mangle]
+pub extern "C" fn x2u_read_all(frame: &[u8], fields: &mut [u32; 6], starts: &mut [u32; 162], ends: &mut [u32; 162]) -> i64
+    ensures { λ r. ⌜ leaves r ((now (fields .exit)), (now (starts .exit)), (now (ends .exit)))
+        ≡ readsAll (now (fields .entry)) (now (starts .entry)) (now (ends .entry)) (readFrame (now (frame .entry))) ⌝ }
+{
+    match reader::read(frame) {
+        reader::Frame::Data { long, number } => {
+            put_fields(fields, number, 0, 0, 0, 0);
+            data_type(long)
+        }
+        reader::Frame::Status(head) => {
+            put_fields(
+                fields,
+                head.highest,
+                head.desired,
+                head.minimum,
+                flag(head.last),
+                head.count,
+            );
+            put_ranges(frame, reader::first_range(head), starts, ends);
+            status_type(head.long)
+        }
+        reader::Frame::Refused(n) => refused(n),
+    }
+}
+
+// Puts the ranges from a cursor on at the front of starts and ends.
+fn put_ranges(frame: &[u8], first: reader::Cursor, starts: &mut [u32; 162], ends: &mut [u32; 162])
+    requires { ⌜ Held (now frame) first × (first .left ≤ 162) ⌝ }
+    ensures { λ _. ⌜ (now (starts .exit) ≡ sets (now (starts .entry)) 0 (startsOf (ahead (now (frame .entry)) first)))
+        × (now (ends .exit) ≡ sets (now (ends .entry)) 0 (endsOf (ahead (now (frame .entry)) first))) ⌝ }
+{
+    let mut at = first;
+    let mut i: usize = 0;
+    while i < 162 {
+        let reader::Step::Range { start, end, rest } = reader::next_range(frame, at) else {
+            return;
+        };
+        starts[i] = start;
+        ends[i] = end;
+        at = rest;
+        i += 1;
     }
 }
 
