@@ -7,6 +7,11 @@ use std::time::Duration;
 
 fn measure(criterion: &mut Criterion, case: &mut Case, side: &str) {
     let mut group = criterion.benchmark_group(case.id.as_str());
+    if case.table == "keeper" {
+        // Keepers are made anew for each batch, which takes far longer than it.
+        group.warm_up_time(Duration::from_millis(10));
+        group.measurement_time(Duration::from_millis(30));
+    }
     group.bench_function(BenchmarkId::from_parameter(side), |bencher| {
         bencher.iter_custom(|iterations| {
             let measured = (case.run)(iterations);
@@ -34,9 +39,9 @@ fn sides(criterion: &mut Criterion) {
 criterion_group! {
     name = benches;
     config = Criterion::default()
-        .sample_size(30)
-        .warm_up_time(Duration::from_millis(150))
-        .measurement_time(Duration::from_millis(600));
+        .sample_size(50)
+        .warm_up_time(Duration::from_millis(100))
+        .measurement_time(Duration::from_millis(300));
     targets = sides
 }
 criterion_main!(benches);

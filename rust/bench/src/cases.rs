@@ -16,12 +16,16 @@ pub struct Case {
     /// At most this many times the library's time.
     pub goal: Option<f64>,
     /// Makes at least so many calls.
-    pub run: Box<dyn FnMut(u64) -> Measured>,
+    pub run: Run,
 }
+
+/// Makes at least so many calls.
+pub type Run = Box<dyn FnMut(u64) -> Measured>;
 
 /// Calls in a batch that needs no setting up.
 const PURE: u64 = 1_024;
-/// Keepers that a batch goes through, a call on each.
+/// Keepers that a batch goes through, a call on each. Together they fit in a
+/// second-level cache.
 const KEEPERS: usize = 64;
 /// In-order arrivals in a batch.
 const ARRIVALS: u32 = 64;
@@ -38,7 +42,7 @@ pub fn cases<S: Side>() -> Vec<Case> {
     cases
 }
 
-fn pure(mut call: impl FnMut() -> i64 + 'static) -> Box<dyn FnMut(u64) -> Measured> {
+fn pure(mut call: impl FnMut() -> i64 + 'static) -> Run {
     let clock = Clock::new();
     Box::new(move |least| {
         let mut measured = Measured::default();
@@ -209,7 +213,7 @@ fn on_each<S: Side>(
     keepers: usize,
     wanted: i64,
     call: impl Fn(&mut S::Keeper) -> i64 + 'static,
-) -> Box<dyn FnMut(u64) -> Measured> {
+) -> Run {
     let clock = Clock::new();
     let fresh = made.keeper.clone();
     assert_eq!(call(&mut fresh.clone()), wanted);
@@ -231,7 +235,7 @@ fn in_turn<S: Side>(
     made: &Made<S>,
     calls: u32,
     call: impl Fn(&mut S::Keeper, u32) -> i64 + 'static,
-) -> Box<dyn FnMut(u64) -> Measured> {
+) -> Run {
     let clock = Clock::new();
     let fresh = made.keeper.clone();
     let mut keeper = fresh.clone();
@@ -317,9 +321,7 @@ fn keeper<S: Side>(cases: &mut Vec<Case>) {
     statuses::<S>(&mut add);
 }
 
-fn statuses<S: Side>(
-    add: &mut impl FnMut(&str, &str, Option<f64>, Box<dyn FnMut(u64) -> Measured>),
-) {
+fn statuses<S: Side>(add: &mut impl FnMut(&str, &str, Option<f64>, Run)) {
     let status = |keeper: &mut S::Keeper| {
         let mut buffer = [0; 1_018];
         S::status(keeper, black_box(&mut buffer))
@@ -389,7 +391,7 @@ fn ledger<S: Side>(cases: &mut Vec<Case>) {
 }
 
 /// Frames refused by a ledger that was filled before; filling it is taken off.
-fn hostile<S: Side>(entries: u32, octets: Vec<u8>) -> Box<dyn FnMut(u64) -> Measured> {
+fn hostile<S: Side>(entries: u32, octets: Vec<u8>) -> Run {
     let clock = Clock::new();
     Box::new(move |least| {
         let turns = u32::try_from(least).unwrap_or(u32::MAX);

@@ -66,7 +66,7 @@ fn tables(criterion: &Path, counts: &str, lister: &str) -> Result<String, String
 }
 
 fn row(case: &Case, criterion: &Path, counts: &BTreeMap<String, Both>) -> Result<String, String> {
-    let [rust, rattle] = SIDES.map(|side| median(&criterion.join(&case.id).join(side)));
+    let [rust, rattle] = SIDES.map(|side| fastest(&criterion.join(&case.id).join(side)));
     let (rust, rattle) = (rust?, rattle?);
     let ratio = rattle / rust;
     let goal = match case.goal {
@@ -82,19 +82,24 @@ fn row(case: &Case, criterion: &Path, counts: &BTreeMap<String, Both>) -> Result
     ))
 }
 
-/// The median in nanoseconds, out of criterion's file.
-fn median(folder: &Path) -> Result<f64, String> {
-    let file = folder.join("new/estimates.json");
+/// The fastest sample in nanoseconds a call, out of criterion's file: what else
+/// runs on a machine only ever makes a sample slower.
+fn fastest(folder: &Path) -> Result<f64, String> {
+    let file = folder.join("new/sample.json");
     let trouble = |what: &str| format!("{}: {what}", file.display());
     let text = fs::read_to_string(&file).map_err(|error| trouble(&error.to_string()))?;
-    let (_, median) = text
-        .split_once(r#""median":"#)
-        .ok_or_else(|| trouble("no median"))?;
-    let (_, number) = median
-        .split_once(r#""point_estimate":"#)
-        .ok_or_else(|| trouble("no estimate"))?;
-    let end = number.find([',', '}']).ok_or_else(|| trouble("cut off"))?;
-    number[..end].parse().map_err(|_| trouble("no number"))
+    let list = |name: &str| -> Option<Vec<f64>> {
+        let (_, rest) = text.split_once(&format!("\"{name}\":["))?;
+        let (numbers, _) = rest.split_once(']')?;
+        numbers.split(',').map(|n| n.parse().ok()).collect()
+    };
+    let (Some(times), Some(calls)) = (list("times"), list("iters")) else {
+        return Err(trouble("no samples"));
+    };
+    let samples = times.iter().zip(&calls).map(|(time, calls)| time / calls);
+    samples
+        .min_by(f64::total_cmp)
+        .ok_or_else(|| trouble("no samples"))
 }
 
 fn counted(text: &str) -> Result<BTreeMap<String, Both>, String> {
