@@ -115,6 +115,30 @@ static void walk(struct part *p, const uint8_t *frame, size_t length, uint32_t *
     }
 }
 
+/* Reads octets that may be a frame with all their ranges at once, which is to be what the walk gives. */
+static void look_at_all(struct part *p, const uint8_t *frame, size_t length)
+{
+    static uint32_t *fields, *starts, *ends;
+    uint32_t plain[6], cursor[3], range[2];
+    if (!fields) {
+        fields = guarded(6 * 4);
+        starts = guarded(X2U_MOST_RANGES * 4);
+        ends = guarded(X2U_MOST_RANGES * 4);
+    }
+    for (int i = 0; i < 6; i++) plain[i] = fields[i] = random_word();
+    for (uint32_t i = 0; i < X2U_MOST_RANGES; i++) starts[i] = ends[i] = 0xA5000000u + i;
+    int64_t kind = x2u_read(frame, length, plain);
+    must(p, x2u_read_all(frame, length, fields, starts, ends) == kind && memcmp(plain, fields, sizeof plain) == 0, "read and read all agree");
+    uint32_t count = kind == 1 || kind == 2 ? fields[4] : 0;
+    if (count > 0) x2u_first_range(frame, length, cursor);
+    int same = 1;
+    for (uint32_t i = 0; i < count; i++)
+        same &= x2u_next_range(frame, length, cursor, range) == 1 && starts[i] == range[0] && ends[i] == range[1];
+    must(p, same, "read all gives the ranges that the walk gives");
+    for (uint32_t i = count; i < X2U_MOST_RANGES; i++) same &= starts[i] == 0xA5000000u + i && ends[i] == 0xA5000000u + i;
+    must(p, same, "read all leaves the places behind the ranges");
+}
+
 /* Reads octets that may be a frame, and walks them. */
 static void look(struct part *p, const uint8_t *frame, size_t length, uint32_t *fields, uint32_t *cursor, uint32_t *range)
 {
@@ -132,6 +156,7 @@ static void look(struct part *p, const uint8_t *frame, size_t length, uint32_t *
         must(p, count == (int64_t)fields[4] && count <= X2U_MOST_RANGES && cursor[2] == fields[4], "a status has its count of ranges");
     }
     if (kind >= 0) walk(p, frame, length, cursor, range);
+    look_at_all(p, frame, length);
     for (int i = 0; i < 3; i++) cursor[i] = odd_word();
     walk(p, frame, length, cursor, range);
 }

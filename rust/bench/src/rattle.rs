@@ -1,7 +1,7 @@
 //! The product through its C boundary, as a [`Side`].
 
 use crate::{Form, List, REPORT, Report, Side};
-use boundary::Keeper;
+use boundary::{Keeper, Room};
 
 /// The product.
 pub struct Rattle;
@@ -12,21 +12,30 @@ impl Side for Rattle {
 
     #[inline(never)]
     fn read(octets: &[u8]) -> i64 {
+        let (mut fields, mut room) = ([0; 6], Room::new());
+        match boundary::read_all(octets, &mut fields, &mut room) {
+            1 | 2 => {
+                let (starts, ends) = room.ranges();
+                let sum: i64 = starts.iter().chain(ends).map(|&n| i64::from(n)).sum();
+                sum + i64::from(fields[0]) + i64::from(fields[1]) + i64::from(fields[2])
+            }
+            0.. => i64::from(fields[0]),
+            refusal => refusal,
+        }
+    }
+
+    #[inline(never)]
+    fn read_apart(octets: &[u8]) -> i64 {
         let mut fields = [0; 6];
-        let kind = boundary::read(octets, &mut fields);
-        match kind {
+        match boundary::read(octets, &mut fields) {
             1 | 2 => {
                 // With no ranges there is nothing to walk.
                 let ranges = if fields[4] > 0 { walked(octets) } else { 0 };
                 ranges + i64::from(fields[0]) + i64::from(fields[1]) + i64::from(fields[2])
             }
             0.. => i64::from(fields[0]),
-            _ => kind,
+            refusal => refusal,
         }
-    }
-
-    fn read_apart(octets: &[u8]) -> i64 {
-        Self::read(octets)
     }
 
     #[inline(never)]

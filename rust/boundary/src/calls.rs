@@ -1,13 +1,65 @@
 //! The calls, safe to make.
 #![allow(unsafe_code)]
 
-use crate::foreign::{self, Records, Runs, Words};
+use crate::foreign::{self, Ranges, Records, Runs, Words};
+use std::mem::MaybeUninit;
 
 /// Reads a frame: its type, or the refusal below zero.
 #[inline]
 pub fn read(frame: &[u8], fields: &mut [u32; 6]) -> i64 {
     // SAFETY: pointer and length are those of one slice, `fields` is an array.
     unsafe { foreign::x2u_read(frame.as_ptr(), frame.len(), fields) }
+}
+
+/// Reads a frame with all its ranges, which are laid at the front of `room`.
+#[inline]
+pub fn read_all(frame: &[u8], fields: &mut [u32; 6], room: &mut Room) -> i64 {
+    let (starts, ends) = (room.starts.as_mut_ptr(), room.ends.as_mut_ptr());
+    // SAFETY: as in `read`; the arrays are written to and never read.
+    let kind = unsafe { foreign::x2u_read_all(frame.as_ptr(), frame.len(), fields, starts, ends) };
+    room.count = if kind == 1 || kind == 2 {
+        fields[4] as usize
+    } else {
+        0
+    };
+    kind
+}
+
+/// Room for the ranges of one frame.
+pub struct Room {
+    starts: MaybeUninit<Ranges>,
+    ends: MaybeUninit<Ranges>,
+    count: usize,
+}
+
+impl Room {
+    /// Room that nothing was laid in yet.
+    #[inline]
+    pub const fn new() -> Self {
+        Self {
+            starts: MaybeUninit::uninit(),
+            ends: MaybeUninit::uninit(),
+            count: 0,
+        }
+    }
+
+    /// The starts and the ends of the ranges that the last call laid here.
+    #[inline]
+    pub fn ranges(&self) -> (&[u32], &[u32]) {
+        // SAFETY: a status's count, 162 at most, is how many places of both were written.
+        unsafe {
+            (
+                std::slice::from_raw_parts(self.starts.as_ptr().cast(), self.count),
+                std::slice::from_raw_parts(self.ends.as_ptr().cast(), self.count),
+            )
+        }
+    }
+}
+
+impl Default for Room {
+    fn default() -> Self {
+        Self::new()
+    }
 }
 
 /// Lays the place before a status's first range in `cursor`.

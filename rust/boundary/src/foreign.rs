@@ -4,9 +4,17 @@
 pub type Records = [u32; 512];
 pub type Runs = [u32; 256];
 pub type Words = [u32; 6];
+pub type Ranges = [u32; 162];
 
 unsafe extern "C" {
     pub fn x2u_read(frame: *const u8, frame_len: usize, fields: *mut [u32; 6]) -> i64;
+    pub fn x2u_read_all(
+        frame: *const u8,
+        frame_len: usize,
+        fields: *mut [u32; 6],
+        starts: *mut Ranges,
+        ends: *mut Ranges,
+    ) -> i64;
     pub fn x2u_first_range(frame: *const u8, frame_len: usize, cursor: *mut [u32; 3]) -> i64;
     pub fn x2u_next_range(
         frame: *const u8,

@@ -14,6 +14,6 @@ mod foreign;
 mod probe;
 
 #[cfg(feature = "product")]
-pub use calls::{Keeper, first_range, next_range, read, write_data, write_status};
+pub use calls::{Keeper, Room, first_range, next_range, read, read_all, write_data, write_status};
 #[cfg(feature = "probe")]
 pub use probe::{ledger_accepts, ledger_sends};

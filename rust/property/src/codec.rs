@@ -47,6 +47,9 @@ struct Reading {
 fn read_by_product(octets: &[u8]) -> Result<Reading, String> {
     let mut fields = [FILL; 6];
     let answer = boundary::read(octets, &mut fields);
+    let (mut fields_of_all, mut room) = ([FILL; 6], boundary::Room::new());
+    let all = boundary::read_all(octets, &mut fields_of_all, &mut room);
+    same!("reading all", (answer, fields), (all, fields_of_all));
     let mut cursor = [FILL; 3];
     let first = boundary::first_range(octets, &mut cursor);
     let mut ranges = Vec::new();
@@ -67,6 +70,10 @@ fn read_by_product(octets: &[u8]) -> Result<Reading, String> {
             return Err("the walk over the ranges doesn't end".to_owned());
         }
     }
+    let (starts, ends) = room.ranges();
+    let taken = |number: fn(&Range) -> u32| ranges.iter().map(number).collect::<Vec<_>>();
+    same!("all starts", taken(|r| r.start), starts.to_vec());
+    same!("all ends", taken(|r| r.end), ends.to_vec());
     // At the end it stays, and nothing is changed any more.
     let (end, last) = (cursor, range);
     same!(

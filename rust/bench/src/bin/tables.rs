@@ -46,7 +46,7 @@ fn tables(criterion: &Path, counts: &str, lister: &str) -> Result<String, String
         ("codec", "Reading and writing"),
         (
             "apart",
-            "Reading with a call for each range on the Rust side too",
+            "Reading with a call for each range on both sides",
         ),
         ("lengths", "Reading against the frame's length (long form)"),
         ("keeper", "The keeper"),
