@@ -12,15 +12,16 @@ impl Side for Rattle {
 
     #[inline(never)]
     fn read(octets: &[u8]) -> i64 {
-        let (mut fields, mut room) = ([0; 6], Room::new());
-        match boundary::read_all(octets, &mut fields, &mut room) {
+        let mut fields = [0; 6];
+        let (mut starts, mut ends) = (Room::uninit(), Room::uninit());
+        let (kind, starts, ends) = boundary::read_all(octets, &mut fields, &mut starts, &mut ends);
+        match kind {
             1 | 2 => {
-                let (starts, ends) = room.ranges();
                 let sum: i64 = starts.iter().chain(ends).map(|&n| i64::from(n)).sum();
                 sum + i64::from(fields[0]) + i64::from(fields[1]) + i64::from(fields[2])
             }
             0.. => i64::from(fields[0]),
-            refusal => refusal,
+            _ => kind,
         }
     }
 

@@ -11,54 +11,35 @@ pub fn read(frame: &[u8], fields: &mut [u32; 6]) -> i64 {
     unsafe { foreign::x2u_read(frame.as_ptr(), frame.len(), fields) }
 }
 
-/// Reads a frame with all its ranges, which are laid at the front of `room`.
+/// Room for one end of each range of a frame.
+pub type Room = MaybeUninit<Ranges>;
+
+/// Reads a frame with all its ranges: its type or the refusal below zero, and
+/// the starts and the ends of the ranges, laid at the front of the room.
 #[inline]
-pub fn read_all(frame: &[u8], fields: &mut [u32; 6], room: &mut Room) -> i64 {
-    let (starts, ends) = (room.starts.as_mut_ptr(), room.ends.as_mut_ptr());
-    // SAFETY: as in `read`; the arrays are written to and never read.
-    let kind = unsafe { foreign::x2u_read_all(frame.as_ptr(), frame.len(), fields, starts, ends) };
-    room.count = if kind == 1 || kind == 2 {
+pub fn read_all<'a>(
+    frame: &[u8],
+    fields: &mut [u32; 6],
+    starts: &'a mut Room,
+    ends: &'a mut Room,
+) -> (i64, &'a [u32], &'a [u32]) {
+    // SAFETY: as in `read`; the rooms are written to and never read.
+    let kind = unsafe {
+        let (starts, ends) = (starts.as_mut_ptr(), ends.as_mut_ptr());
+        foreign::x2u_read_all(frame.as_ptr(), frame.len(), fields, starts, ends)
+    };
+    let count = if kind == 1 || kind == 2 {
         fields[4] as usize
     } else {
         0
     };
-    kind
-}
-
-/// Room for the ranges of one frame.
-pub struct Room {
-    starts: MaybeUninit<Ranges>,
-    ends: MaybeUninit<Ranges>,
-    count: usize,
-}
-
-impl Room {
-    /// Room that nothing was laid in yet.
-    #[inline]
-    pub const fn new() -> Self {
-        Self {
-            starts: MaybeUninit::uninit(),
-            ends: MaybeUninit::uninit(),
-            count: 0,
-        }
-    }
-
-    /// The starts and the ends of the ranges that the last call laid here.
-    #[inline]
-    pub fn ranges(&self) -> (&[u32], &[u32]) {
-        // SAFETY: a status's count, 162 at most, is how many places of both were written.
-        unsafe {
-            (
-                std::slice::from_raw_parts(self.starts.as_ptr().cast(), self.count),
-                std::slice::from_raw_parts(self.ends.as_ptr().cast(), self.count),
-            )
-        }
-    }
-}
-
-impl Default for Room {
-    fn default() -> Self {
-        Self::new()
+    // SAFETY: of a status so many places were written, 162 at most.
+    unsafe {
+        (
+            kind,
+            std::slice::from_raw_parts(starts.as_ptr().cast(), count),
+            std::slice::from_raw_parts(ends.as_ptr().cast(), count),
+        )
     }
 }
 

@@ -47,8 +47,10 @@ struct Reading {
 fn read_by_product(octets: &[u8]) -> Result<Reading, String> {
     let mut fields = [FILL; 6];
     let answer = boundary::read(octets, &mut fields);
-    let (mut fields_of_all, mut room) = ([FILL; 6], boundary::Room::new());
-    let all = boundary::read_all(octets, &mut fields_of_all, &mut room);
+    let mut fields_of_all = [FILL; 6];
+    let (mut starts, mut ends) = (boundary::Room::uninit(), boundary::Room::uninit());
+    let (all, starts, ends) =
+        boundary::read_all(octets, &mut fields_of_all, &mut starts, &mut ends);
     same!("reading all", (answer, fields), (all, fields_of_all));
     let mut cursor = [FILL; 3];
     let first = boundary::first_range(octets, &mut cursor);
@@ -70,7 +72,6 @@ fn read_by_product(octets: &[u8]) -> Result<Reading, String> {
             return Err("the walk over the ranges doesn't end".to_owned());
         }
     }
-    let (starts, ends) = room.ranges();
     let taken = |number: fn(&Range) -> u32| ranges.iter().map(number).collect::<Vec<_>>();
     same!("all starts", taken(|r| r.start), starts.to_vec());
     same!("all ends", taken(|r| r.end), ends.to_vec());

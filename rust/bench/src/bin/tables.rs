@@ -44,10 +44,7 @@ fn tables(criterion: &Path, counts: &str, lister: &str) -> Result<String, String
     let all = cases::<Rust>();
     for (table, title) in [
         ("codec", "Reading and writing"),
-        (
-            "apart",
-            "Reading with a call for each range on both sides",
-        ),
+        ("apart", "Reading with a call for each range on both sides"),
         ("lengths", "Reading against the frame's length (long form)"),
         ("keeper", "The keeper"),
         ("ledger", "The ledger against hostile frames (long form)"),
