@@ -14,7 +14,7 @@ export X2U_ARCHIVES=$PWD/target/native
 programs=rust/target/release
 
 # times
-(cd rust && cargo bench -p bench --features product) | tee "$out/criterion.log" | grep -o '^Benchmarking [^:]*: Analyzing' >&2
+(cd rust && cargo bench -p bench --features product) | tee "$out/criterion.log" | grep --line-buffered -o '^Benchmarking [^:]*: Analyzing' >&2
 
 # instructions a call, within the batches: the first batch alone, or what 100 more turns of the ledger take
 count() { # CASE SIDE COUNT: calls made, instructions

@@ -11,7 +11,6 @@ if [ -z "${REPLAY:-}" ]; then
   scripts/native.sh replay >&2
   REPLAY=target/native/replay
 fi
-[ -x rust/target/release/ramp ] && [ -z "$(find rust/soak rust/model rust/programs rust/x2u -name '*.rs' -newer rust/target/release/ramp)" ] ||
-  (cd rust && cargo build -p soak --release --quiet) >&2
+(cd rust && cargo build -p soak --release --quiet) >&2
 mkdir -p target/ramp
 exec rust/target/release/ramp "$REPLAY" --report target/ramp/ramp.txt --chart target/ramp/ramp.svg "$@"

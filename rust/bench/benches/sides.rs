@@ -40,6 +40,8 @@ criterion_group! {
     name = benches;
     config = Criterion::default()
         .sample_size(50)
+        // The tables need the samples and no more.
+        .nresamples(1_000)
         .warm_up_time(Duration::from_millis(100))
         .measurement_time(Duration::from_millis(300));
     targets = sides
