@@ -1,11 +1,20 @@
--- `probe_ledger_send`: it ends after its turns. Assumes nothing.
-use Prim.Native.Nat.{_-_, _≤_}
+-- `probe_ledger_send`: what is summed, with what the turns that are left add, is what all turns add. Assumes nothing.
+use mathlib.Core.Path.{_≡_, _∙_, ap}
+use Prim.Native.Nat.{_+_, _-_, _%_, _^_, _≤_, _<_}
+use native.Mathlib.Omega.{arith}
+use mathlib.Core.Logic.{⊎-elim}
+use borrow.Author.Tests.{eq-eqb, ne-eqb}
+use lib.Dec.{eqb}
+use Rattle.layout.specs.Basics.{if_then_else_}
+use Rattle.ledger.specs.View.{ledgerIn}
+use Rattle.probe.specs.Rig.{total, opened, sendNext, sendRound, number, sends}
+use Rattle.probe.proofs.Turns.{sum-all, total-none, sum-more}
 use borrow.Author.Needs.{needs}
 use Rattle.probe.proofs.probe_ledger_send.Statement.{statement}
 use Rattle.probe.proofs.probe_ledger_send.Tie as tie
 
 abbrev Inv-loop : tie.InvT-loop
-Inv-loop length turns l₀ sum₀ i₀ l sum i = i ≤ turns
+Inv-loop length turns l₀ sum₀ i₀ l sum i = (i ≤ turns) × (sum < 2 ^ 32) × ((sum + total number (sendRound length) (ledgerIn l) i (turns - i)) % 2 ^ 32 ≡ sends length turns)
 
 abbrev μ-loop : tie.MeasureT-loop
 μ-loop length turns l₀ sum₀ i₀ l sum i = turns - i
@@ -14,7 +23,7 @@ filled-requires : tie.Need-filled-requires Inv-loop μ-loop
 filled-requires c κs = search needs
 
 loop-holds : tie.Need-loop-holds Inv-loop μ-loop
-loop-holds c = search needs
+loop-holds c = (omega arith, omega arith, sum-all (sendRound (c .before .args .length)) (c .before .args .turns) (c .filled .ensures) number)
 
 filled-requires-2 : tie.Need-filled-requires-2 Inv-loop μ-loop
 filled-requires-2 c κs = search needs
@@ -22,11 +31,8 @@ filled-requires-2 c κs = search needs
 send-requires : tie.Need-send-requires Inv-loop μ-loop
 send-requires c κs = search needs
 
-sent-requires : tie.Need-sent-requires Inv-loop μ-loop
-sent-requires c κs = search needs
-
-wrapping-add-u32-requires : tie.Need-wrapping-add-u32-requires Inv-loop μ-loop
-wrapping-add-u32-requires c κs = search needs
+add-sent-requires : tie.Need-add-sent-requires Inv-loop μ-loop
+add-sent-requires c κs = search needs
 
 add-i : tie.Need-add-i Inv-loop μ-loop
 add-i c = search needs
@@ -34,11 +40,25 @@ add-i c = search needs
 loop-less : tie.Need-loop-less Inv-loop μ-loop
 loop-less c = search needs
 
+-- the packet goes to a ledger opened afresh, or to the one at hand
+into : (k : tie.Joined1 Inv-loop μ-loop) → ledgerIn (k .if1 .l) ≡ (if eqb (k .before .before .loop .i % 512) 0 then opened (k .before .before .before .before .args .length) else ledgerIn (k .before .before .loop .l))
+into k = ⊎-elim (λ w. rw (w .2, eq-eqb _ _ (w .0 .taken)) (w .1 .ensures)) (λ w. rw (w .1, ne-eqb _ _ (w .0 .left))) (k .if1 .came)
+
 loop-again : tie.Need-loop-again Inv-loop μ-loop
-loop-again c = search needs
+loop-again c =
+    let a = c .before .before .before .before .before .before .before .args in
+    let p = c .before .before .before .before .before .loop in
+    let made = c .before .before .send .ensures ∙ ap (sendNext (p .i % 512)) (into (c .before .before .before)) in (
+      omega arith,
+      omega arith,
+      sum-more (sendRound (a .length)) (a .turns) made (omega arith) number (p .sum) (c .add-sent .result) (c .add-sent .ensures) ∙ p .inv .2,
+    )
 
 returns : tie.Need-returns Inv-loop μ-loop
-returns c = search needs
+returns c =
+    let a = c .before .before .before .args in
+    let p = c .before .loop in
+    omega (arith, total-none (sendRound (a .length)) (a .turns) number (ledgerIn (p .l)) (p .i) (omega arith), p .inv .2)
 
 pub probe-ledger-send-spec : {M : Type 1} → statement M
 probe-ledger-send-spec =
@@ -50,8 +70,7 @@ probe-ledger-send-spec =
     loop-holds
     filled-requires-2
     send-requires
-    sent-requires
-    wrapping-add-u32-requires
+    add-sent-requires
     add-i
     loop-less
     loop-again
