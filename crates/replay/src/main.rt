@@ -3,9 +3,12 @@
 ghost use mathlib.Core.Path.{_≡_};
 ghost use Prim.Native.Nat.{_+_, _≤_, _<_};
 ghost use lib.ListN.{length};
+use calling::Call;
 use ledger::Ledger;
 use libc::STDIN_FILENO;
 use libc::STDOUT_FILENO;
+
+const MOST_HELD: usize = 2044; // of a line: one octet more than the longest call has, which shows that it is none
 
 // What one read leaves to the next: how much of an unfinished line is held, the place of the output's next answer, whether
 // the ends are open, the master's end, and whether to read on.
@@ -41,7 +44,49 @@ fn next_place(out: &[u8], at: usize) -> Next
     }
 }
 
-// Feeds a block. Where the output can't be written there is nothing more to do.
+// What a part of a block holds of a line: how many octets were taken, how many are held of the line, and whether its line
+// feed was among them.
+struct Part {
+    taken: usize,
+    held: usize,
+    whole: bool,
+}
+
+// Holds more of a line, up to the octet that shows that it is too long, and answers how much is held.
+fn hold(part: &[u8], line: &mut [u8; 2044], held: usize) -> usize
+    requires { ⌜ held ≤ 2044 ⌝ }
+    ensures { λ r. ⌜ r ≤ 2044 ⌝ }
+{
+    listing::lay_text(calling::first(part, MOST_HELD - held), line, held)
+}
+
+// Takes the octets of a block through its first line feed, or all.
+fn take_line(block: &[u8], line: &mut [u8; 2044], held: usize) -> Part
+    requires { ⌜ (0 < length (now block)) × (held ≤ 2044) ⌝ }
+    ensures { λ r. ⌜ (0 < r .taken) × (r .taken ≤ length (now (block .entry))) × (r .held ≤ 2044) ⌝ }
+{
+    let end = listing::line_end(block);
+    let held = hold(calling::first(block, end), line, held);
+    if end < block.len() {
+        return Part {
+            taken: end + 1,
+            held: held,
+            whole: true,
+        };
+    }
+    Part {
+        taken: end,
+        held: held,
+        whole: false,
+    }
+}
+
+// The call that the line says which is held.
+fn held_call(line: &[u8], held: usize, frame: &mut [u8; 1018]) -> Call {
+    calling::read_call(calling::first(line, held), frame)
+}
+
+// Plays the lines of a block. Where the output can't be written there is nothing more to do.
 fn play_block(
     block: &[u8],
     line: &mut [u8; 2044],
@@ -54,36 +99,47 @@ fn play_block(
     out: &mut [u8],
     state: State,
 ) -> State
-    requires { ⌜ (18432 ≤ length (now out)) × (state .at ≤ length (now out)) ⌝ }
-    ensures { λ r. ⌜ r .at ≤ length (now (out .exit)) ⌝ }
+    requires { ⌜ (18432 ≤ length (now out)) × (state .at ≤ length (now out)) × (state .held ≤ 2044) ⌝ }
+    ensures { λ r. ⌜ (r .at ≤ length (now (out .exit))) × (r .held ≤ 2044) ⌝ }
 {
+    let mut frame = empty_frame();
+    let mut buffer = empty_buffer();
     let mut s = state;
     let mut from = 0;
     while from < block.len() {
+        let part = take_line(&block[from..], line, s.held);
+        from += part.taken;
+        s.held = part.held;
+        if !part.whole {
+            continue;
+        }
+        let call = held_call(line, part.held, &mut frame);
+        s.held = 0;
         let next = next_place(out, s.at);
         if !next.written {
             s.at = 0;
             s.more = false;
             return s;
         }
+        if !replaying::takes_ledger(call, s.opened) {
+            s.at = replaying::play_keeper(
+                call, numbers, pdcps, marks, starts, ends, words, s.opened, &mut buffer, out, next.at,
+            );
+            continue;
+        }
         let l = s.ledger;
-        let fed = replaying::feed(
-            &block[from..], line, s.held, numbers, pdcps, marks, starts, ends, words, s.opened, l, out, next.at,
+        let p = replaying::play_master(
+            call, &frame, numbers, pdcps, marks, starts, ends, words, s.opened, l, out, next.at,
         );
-        let after = fed.ledger;
-        from += fed.taken;
-        s = State {
-            held: fed.held,
-            at: fed.at,
-            opened: fed.opened,
-            ledger: after,
-            more: true,
-        };
+        let after = p.ledger;
+        s.at = p.at;
+        s.opened = p.opened;
+        s.ledger = after;
     }
     s
 }
 
-// Reads once, and feeds what came.
+// Reads once, and plays what came.
 fn play_some(
     block: &mut [u8],
     line: &mut [u8; 2044],
@@ -96,8 +152,8 @@ fn play_some(
     out: &mut [u8],
     state: State,
 ) -> State
-    requires { ⌜ (18432 ≤ length (now out)) × (state .at ≤ length (now out)) ⌝ }
-    ensures { λ r. ⌜ r .at ≤ length (now (out .exit)) ⌝ }
+    requires { ⌜ (18432 ≤ length (now out)) × (state .at ≤ length (now out)) × (state .held ≤ 2044) ⌝ }
+    ensures { λ r. ⌜ (r .at ≤ length (now (out .exit))) × (r .held ≤ 2044) ⌝ }
 {
     let got = libc::read(STDIN_FILENO, block);
     let n = io::count(got, block);
@@ -109,9 +165,14 @@ fn play_some(
     play_block(&block[..n], line, numbers, pdcps, marks, starts, ends, words, out, state)
 }
 
-// Writes what is left, with the answer to a last line without its line end.
+// Writes the front of the output out.
+fn write_front(out: &[u8], n: usize) {
+    io::write_all(STDOUT_FILENO, calling::first(out, n));
+}
+
+// Writes what is left, with the answer to a last line without its line end: a block of one line feed ends it.
 fn play_last(
-    line: &[u8; 2044],
+    line: &mut [u8; 2044],
     numbers: &mut [u32; 512],
     pdcps: &mut [u32; 512],
     marks: &mut [u32; 512],
@@ -121,14 +182,14 @@ fn play_last(
     out: &mut [u8],
     state: State,
 )
-    requires { ⌜ (18432 ≤ length (now out)) × (state .at ≤ length (now out)) ⌝ }
+    requires { ⌜ (18432 ≤ length (now out)) × (state .at ≤ length (now out)) × (state .held ≤ 2044) ⌝ }
 {
-    let next = next_place(out, state.at);
-    let l = state.ledger;
-    let end = replaying::finish(
-        line, state.held, numbers, pdcps, marks, starts, ends, words, state.opened, l, out, next.at,
-    );
-    io::write_all(STDOUT_FILENO, &out[..end]);
+    if state.held == 0 {
+        write_front(out, state.at);
+        return;
+    }
+    let s = play_block(b"\n", line, numbers, pdcps, marks, starts, ends, words, out, state);
+    write_front(out, s.at);
 }
 
 // How many reads are left after one: none where there is nothing more to read.
@@ -141,7 +202,7 @@ fn reads_left(reads: u64, more: bool) -> u64
 
 // Before any open: ends that no call reaches.
 fn unopened() -> State
-    ensures { λ r. ⌜ r .at ≡ 0 ⌝ }
+    ensures { λ r. ⌜ (r .at ≡ 0) × (r .held ≡ 0) ⌝ }
 {
     let none = ledger::open(0, 0, 0);
     let l = none.ledger;
@@ -184,6 +245,16 @@ fn play_all(block: &mut [u8], line: &mut [u8; 2044], out: &mut [u8])
     play_last(
         line, &mut numbers, &mut pdcps, &mut marks, &mut starts, &mut ends, &mut words, out, state,
     );
+}
+
+// A buffer for a frame to accept.
+fn empty_frame() -> [u8; 1018] {
+    [0; 1018]
+}
+
+// A buffer that is lent to a status.
+fn empty_buffer() -> [u8; 2048] {
+    [0; 2048]
 }
 
 // A buffer for an unfinished line.

@@ -7,7 +7,7 @@ use Rattle.replay.proofs.play_all.Statement.{statement}
 use Rattle.replay.proofs.play_all.Tie as tie
 
 abbrev Inv-loop : tie.InvT-loop
-Inv-loop block₀ line₀ out₀ numbers₀ pdcps₀ marks₀ starts₀ ends₀ words₀ state₀ reads₀ block line out numbers pdcps marks starts ends words state reads = (length block ≡ length block₀) × (length out ≡ length out₀) × (state .at ≤ length out) × (18432 ≤ length out)
+Inv-loop block₀ line₀ out₀ numbers₀ pdcps₀ marks₀ starts₀ ends₀ words₀ state₀ reads₀ block line out numbers pdcps marks starts ends words state reads = (length block ≡ length block₀) × (length out ≡ length out₀) × (state .at ≤ length out) × (18432 ≤ length out) × (state .held ≤ 2044)
 
 abbrev μ-loop : tie.MeasureT-loop
 μ-loop block₀ line₀ out₀ numbers₀ pdcps₀ marks₀ starts₀ ends₀ words₀ state₀ reads₀ block line out numbers pdcps marks starts ends words state reads = reads

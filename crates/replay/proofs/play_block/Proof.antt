@@ -7,67 +7,98 @@ use Rattle.replay.proofs.play_block.Statement.{statement}
 use Rattle.replay.proofs.play_block.Tie as tie
 
 abbrev Inv-loop : tie.InvT-loop
-Inv-loop block line₀ numbers₀ pdcps₀ marks₀ starts₀ ends₀ words₀ out₀ s₀ from₀ line numbers pdcps marks starts ends words out s from =
-    (from ≤ length block) × (s .at ≤ length out) × (length out ≡ length out₀) × (18432 ≤ length out)
+Inv-loop block line₀ numbers₀ pdcps₀ marks₀ starts₀ ends₀ words₀ out₀ frame₀ buffer₀ s₀ from₀ line numbers pdcps marks starts ends words out frame buffer s from = (from ≤ length block) × (s .at ≤ length out) × (length out ≡ length out₀) × (18432 ≤ length out) × (s .held ≤ 2044)
 
 abbrev μ-loop : tie.MeasureT-loop
-μ-loop block line₀ numbers₀ pdcps₀ marks₀ starts₀ ends₀ words₀ out₀ s₀ from₀ line numbers pdcps marks starts ends words out s from =
-    length block - from
+μ-loop block line₀ numbers₀ pdcps₀ marks₀ starts₀ ends₀ words₀ out₀ frame₀ buffer₀ s₀ from₀ line numbers pdcps marks starts ends words out frame buffer s from = length block - from
+
+empty-frame-requires : tie.Need-empty-frame-requires Inv-loop μ-loop
+empty-frame-requires c κs = search needs
+
+empty-buffer-requires : tie.Need-empty-buffer-requires Inv-loop μ-loop
+empty-buffer-requires c κs = search needs
 
 loop-holds : tie.Need-loop-holds Inv-loop μ-loop
-loop-holds c = (omega arith, c .before .before .pre .1, refl, c .before .before .pre .0)
+loop-holds c = let p = c .before .before .before .before .pre in (omega arith, p .1, refl, p .0, p .2)
+
+sub-take-line : tie.Need-sub-take-line Inv-loop μ-loop
+sub-take-line c = search needs
+
+part-take-line-start : tie.Need-part-take-line-start Inv-loop μ-loop
+part-take-line-start c = search needs
+
+part-take-line-end : tie.Need-part-take-line-end Inv-loop μ-loop
+part-take-line-end c = search needs
+
+take-line-requires : tie.Need-take-line-requires Inv-loop μ-loop
+take-line-requires c κs = (simp (length-take, length-drop) (omega (arith, c .before .before .loop-test .taken)), c .before .before .before .loop .inv .4)
+
+-- a line was taken, of what was left of the block
+took : (c : tie.After-take-line Inv-loop μ-loop)
+    → (0 < c .take-line .result .taken) × (c .before .before .before .before .loop .from + c .take-line .result .taken ≤ length (c .before .before .before .before .before .before .before .before .before .args .block .now))
+took c =
+    let most = simp (length-take, length-drop) at (c .take-line .ensures .1) in
+    (c .take-line .ensures .0, omega (arith, most, c .before .before .before .loop-test .taken))
+
+add-from : tie.Need-add-from Inv-loop μ-loop
+add-from c = omega (arith, took (c .before) .1, c .before .before .before .before .before .before .before .before .before .before .good .0 .0)
+
+loop-less : tie.Need-loop-less Inv-loop μ-loop
+loop-less c = omega (arith, took (c .before .before .before) .0, took (c .before .before .before) .1)
+
+loop-again : tie.Need-loop-again Inv-loop μ-loop
+loop-again c =
+    let l = c .before .before .before .before .before .before .before .loop in
+    (took (c .before .before .before) .1, l .inv .1, l .inv .2, l .inv .3, c .before .before .before .take-line .ensures .2)
+
+held-call-requires : tie.Need-held-call-requires Inv-loop μ-loop
+held-call-requires c κs = search needs
 
 next-place-requires : tie.Need-next-place-requires Inv-loop μ-loop
-next-place-requires c κs = search needs
+next-place-requires c κs = let l = c .before .before .before .before .before .before .before .before .before .before .before .before .loop in (l .inv .3, l .inv .1)
 
 same-length : tie.Need-same-length Inv-loop μ-loop
-same-length c = c .before .before .before .before .before .loop .inv .2
+same-length c = c .before .before .before .before .before .before .before .before .before .before .before .before .before .before .before .loop .inv .2
 
 returns : tie.Need-returns Inv-loop μ-loop
 returns c = search needs
 
-sub-feed : tie.Need-sub-feed Inv-loop μ-loop
-sub-feed c = search needs
+takes-ledger-requires : tie.Need-takes-ledger-requires Inv-loop μ-loop
+takes-ledger-requires c κs = search needs
 
-part-feed-start : tie.Need-part-feed-start Inv-loop μ-loop
-part-feed-start c = search needs
+play-keeper-requires : tie.Need-play-keeper-requires Inv-loop μ-loop
+play-keeper-requires c κs = search needs
 
-part-feed-end : tie.Need-part-feed-end Inv-loop μ-loop
-part-feed-end c = search needs
+loop-less-2 : tie.Need-loop-less-2 Inv-loop μ-loop
+loop-less-2 c = omega (arith, took (c .before .before .before .before .before .before .before .before .before .before .before .before .before .before .before .before .before .before .before .before .before .before .before .before) .0, took (c .before .before .before .before .before .before .before .before .before .before .before .before .before .before .before .before .before .before .before .before .before .before .before .before) .1)
 
-feed-requires : tie.Need-feed-requires Inv-loop μ-loop
-feed-requires c κs = search needs
+loop-again-2 : tie.Need-loop-again-2 Inv-loop μ-loop
+loop-again-2 c =
+    let d = c .before .before in
+    let l = c .before .before .before .before .before .before .before .before .before .before .before .before .before .before .before .before .before .before .before .before .before .before .before .before .before .before .before .before .loop in
+    let size = d .play-keeper .kept .1 .1 .1 .1 .1 .1 .1 .1 .1 .0 in
+    let within = d .play-keeper .ensures (omega (arith, c .before .before .before .before .before .before .before .before .before .before .before .before .before .before .before .next-place .ensures)) in
+    (took (c .before .before .before .before .before .before .before .before .before .before .before .before .before .before .before .before .before .before .before .before .before .before .before .before) .1, omega (arith, within, size), size ∙ l .inv .2, omega (arith, size, l .inv .3), omega arith)
 
--- what the call took, of what was left of the block
-took : (c : tie.After-feed Inv-loop μ-loop)
-    → let l = c .before .before .before .before .before .before .before .before .before .before .before .before .before .before .before .before .loop in
-    (0 < c .feed .result .taken) × (l .from + c .feed .result .taken ≤ length (c .before .before .before .before .before .before .before .before .before .before .before .before .before .before .before .before .before .before .before .args .block .now)) × (c .feed .result .at ≤ length (l .out))
-took c =
-    let l = c .before .before .before .before .before .before .before .before .before .before .before .before .before .before .before .before .loop in
-    let next = c .before .before .before .before .before .before .before .before .before .before .before .before .before .next-place in
-    let test = c .before .before .before .before .before .before .before .before .before .before .before .before .before .before .before .loop-test .taken in
-    let most = simp (length-take, length-drop) at (c .feed .ensures .0 .0) in
-    let some = simp (length-take, length-drop) at (c .feed .ensures .1) in
-    (some (omega arith) (next .ensures), omega (arith, most), c .feed .ensures .0 .1 (omega (arith, next .ensures)))
+play-master-requires : tie.Need-play-master-requires Inv-loop μ-loop
+play-master-requires c κs = search needs
 
-add-from : tie.Need-add-from Inv-loop μ-loop
-add-from c = omega (arith, took (c .before .before .before .before) .1, c .before .before .before .before .before .before .before .before .before .before .before .before .before .before .before .before .before .before .before .before .before .before .before .good .0 .0)
+loop-less-3 : tie.Need-loop-less-3 Inv-loop μ-loop
+loop-less-3 c = omega (arith, took (c .before .before .before .before .before .before .before .before .before .before .before .before .before .before .before .before .before .before .before .before .before .before .before .before .before .before) .0, took (c .before .before .before .before .before .before .before .before .before .before .before .before .before .before .before .before .before .before .before .before .before .before .before .before .before .before) .1)
 
-loop-less : tie.Need-loop-less Inv-loop μ-loop
-loop-less c = omega (arith, took (c .before .before .before .before) .0, took (c .before .before .before .before) .1)
-
-loop-again : tie.Need-loop-again Inv-loop μ-loop
-loop-again c =
-    let d = c .before .before .before .before in
-    let l = d .before .before .before .before .before .before .before .before .before .before .before .before .before .before .before .before .loop in
-    let size = d .feed .kept .1 .1 .1 .1 .1 .1 .1 .1 .1 .1 .1 .0 in
-    (took d .1, omega (arith, took d .2, size), size ∙ l .inv .2, omega (arith, size, l .inv .3))
+loop-again-3 : tie.Need-loop-again-3 Inv-loop μ-loop
+loop-again-3 c =
+    let d = c .before .before .before in
+    let l = c .before .before .before .before .before .before .before .before .before .before .before .before .before .before .before .before .before .before .before .before .before .before .before .before .before .before .before .before .before .before .loop in
+    let size = d .play-master .kept .1 .1 .1 .1 .1 .1 .1 .1 .1 .1 .0 in
+    let within = d .play-master .ensures (omega (arith, c .before .before .before .before .before .before .before .before .before .before .before .before .before .before .before .before .before .next-place .ensures)) in
+    (took (c .before .before .before .before .before .before .before .before .before .before .before .before .before .before .before .before .before .before .before .before .before .before .before .before .before .before) .1, omega (arith, within, size), size ∙ l .inv .2, omega (arith, size, l .inv .3), omega arith)
 
 same-length-2 : tie.Need-same-length-2 Inv-loop μ-loop
 same-length-2 c = c .before .loop .inv .2
 
 returns-2 : tie.Need-returns-2 Inv-loop μ-loop
-returns-2 c = c .before .loop .inv .1
+returns-2 c = let l = c .before .loop in (l .inv .1, l .inv .4)
 
 pub play-block-spec : {M : Type 1} → statement M
 play-block-spec =
@@ -75,16 +106,26 @@ play-block-spec =
     (tie.spec
     Inv-loop
     μ-loop
+    empty-frame-requires
+    empty-buffer-requires
     loop-holds
-    next-place-requires
-    same-length
-    returns
-    sub-feed
-    part-feed-start
-    part-feed-end
-    feed-requires
+    sub-take-line
+    part-take-line-start
+    part-take-line-end
+    take-line-requires
     add-from
     loop-less
     loop-again
+    held-call-requires
+    next-place-requires
+    same-length
+    returns
+    takes-ledger-requires
+    play-keeper-requires
+    loop-less-2
+    loop-again-2
+    play-master-requires
+    loop-less-3
+    loop-again-3
     same-length-2
     returns-2)

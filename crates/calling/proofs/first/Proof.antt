@@ -5,8 +5,8 @@ use mathlib.Core.Path.{_≡_, refl, sym, _∙_, ap}
 use lib.ListN.{length, getD, set, take, drop}
 use mathlib.Core.List.{List, [], _∷_, _++_, map}
 use borrow.Author.Needs.{needs}
-use Rattle.replaying.proofs.first.Statement.{statement}
-use Rattle.replaying.proofs.first.Tie as tie
+use Rattle.calling.proofs.first.Statement.{statement}
+use Rattle.calling.proofs.first.Tie as tie
 
 slice-aggregate-result : tie.Need-slice-aggregate-result
 slice-aggregate-result c = sym (length-take-le (c .before .before .args .n) (c .before .before .args .octets .now) (omega arith))

@@ -3,8 +3,8 @@ use native.Mathlib.Omega.{arith}
 use mathlib.Core.Path.{_≡_, refl, sym, _∙_, ap}
 use lib.ListN.{length, getD, set, take, drop}
 use borrow.Author.Needs.{needs}
-use Rattle.replaying.proofs.field_end.Statement.{statement}
-use Rattle.replaying.proofs.field_end.Tie as tie
+use Rattle.calling.proofs.field_end.Statement.{statement}
+use Rattle.calling.proofs.field_end.Tie as tie
 
 abbrev Inv-loop : tie.InvT-loop
 Inv-loop octets i₀ i = (i ≤ length octets)

@@ -3,8 +3,8 @@ use native.Mathlib.Omega.{arith}
 use mathlib.Core.Path.{_≡_, refl, sym, _∙_, ap}
 use lib.ListN.{length, getD, set, take, drop}
 use borrow.Author.Needs.{needs}
-use Rattle.replaying.proofs.number_in.Statement.{statement}
-use Rattle.replaying.proofs.number_in.Tie as tie
+use Rattle.calling.proofs.number_in.Statement.{statement}
+use Rattle.calling.proofs.number_in.Tie as tie
 
 abbrev Inv-loop : tie.InvT-loop
 Inv-loop field value₀ i₀ value i = (i ≤ length field) × (value ≤ 4294967295)

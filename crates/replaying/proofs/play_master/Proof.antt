@@ -1,0 +1,41 @@
+use Prim.Native.Nat.{ℕ, _+_, _-_, _*_, _^_, _≤_, _<_}
+use native.Mathlib.Omega.{arith}
+use mathlib.Core.Path.{_≡_, refl, sym, _∙_, ap}
+use lib.ListN.{length, getD, set, take, drop}
+use borrow.Author.Tests.{leb-true, not-false}
+use borrow.Author.Needs.{needs}
+use Rattle.replaying.proofs.play_master.Statement.{statement}
+use Rattle.replaying.proofs.play_master.Tie as tie
+
+has-room-requires : tie.Need-has-room-requires
+has-room-requires c κs = search needs
+
+returns : tie.Need-returns
+returns c = search needs
+
+-- behind the test there is room for any answer
+room : (c : tie.Else1) → let a = c .before .before .before .args in a .at + 18432 ≤ length (a .out .now)
+room c = leb-true _ _ (sym (c .before .has-room .ensures) ∙ not-false _ (c .if1 .left))
+
+play-ledger-requires : tie.Need-play-ledger-requires
+play-ledger-requires c κs = omega (arith, room (c .before .before .before .before .before .before .before .before))
+
+put-octet-requires : tie.Need-put-octet-requires
+put-octet-requires c κs = search needs
+
+same-length : tie.Need-same-length
+same-length c = search needs
+
+returns-2 : tie.Need-returns-2
+returns-2 c = search needs
+
+pub play-master-spec : {M : Type 1} → statement M
+play-master-spec =
+    tie.close
+    (tie.spec
+    has-room-requires
+    returns
+    play-ledger-requires
+    put-octet-requires
+    same-length
+    returns-2)
