@@ -1,28 +1,16 @@
 // A line of a script taken apart: one call a line, its fields parted by tabs.
 ghost use mathlib.Core.Path.{_≡_};
-ghost use Prim.Native.Nat.{_+_, _≤_, _<_};
+ghost use mathlib.Core.List.{[], _∷_};
+ghost use mathlib.Core.Option.{some};
+ghost use Prim.Native.Nat.{_+_, _-_, _≤_, _<_};
 ghost use lib.ListN.{length, take};
+ghost use Rattle.calling.specs.Calls.{same as «sameOf», firstField, tabbedFields, decimalOf, numberOf, numbersOf, few, heldIn, statusOf, callWith, acceptOf, callBy, readCall, decodedBehind, frameBy, frameAfter};
 
 const TAB: u8 = b'\t';
 
 const MOST_NUMBER: u64 = 4294967295;
 
 const MOST_ROOM: u32 = 2048; // of a buffer that is lent to a status
-
-// The word that a line begins with.
-enum Word {
-    Open,
-    Arrive,
-    Expire,
-    Confirm,
-    Status,
-    Send,
-    Accept,
-    Take,
-    Keeper,
-    Ledger,
-    Unknown,
-}
 
 // What a field says: a number, or nothing that can be read.
 enum Number {
@@ -62,9 +50,16 @@ pub fn first(octets: &[u8], n: usize) -> &[u8]
     octets
 }
 
+// Whether two texts are the same.
+fn same(a: &[u8], b: &[u8]) -> bool
+    ensures { λ r. ⌜ r ≡ «sameOf» (now (a .entry)) (now (b .entry)) ⌝ }
+{
+    check::same(a, b)
+}
+
 // Where the field at the front of octets ends: at the first tab, or at their end.
 fn field_end(octets: &[u8]) -> usize
-    ensures { λ r. ⌜ r ≤ length (now (octets .entry)) ⌝ }
+    ensures { λ r. ⌜ r ≡ length (firstField (now (octets .entry))) ⌝ }
 {
     let mut i = 0;
     while i < octets.len() {
@@ -78,7 +73,7 @@ fn field_end(octets: &[u8]) -> usize
 
 // The value of a decimal digit; 10 for another character.
 fn digit(c: u8) -> u64
-    ensures { λ r. ⌜ r ≤ 10 ⌝ }
+    ensures { λ r. ⌜ r ≡ decimalOf c ⌝ }
 {
     if c < b'0' {
         return 10;
@@ -90,7 +85,9 @@ fn digit(c: u8) -> u64
 }
 
 // The number that a field of 1 to 10 decimal digits says, unless it is above 4294967295.
-fn number_in(field: &[u8]) -> Number {
+fn number_in(field: &[u8]) -> Number
+    ensures { λ r. ⌜ r ≡ numberOf (now (field .entry)) ⌝ }
+{
     if field.len() == 0 {
         return Number::Unreadable;
     }
@@ -114,14 +111,17 @@ fn number_in(field: &[u8]) -> Number {
 }
 
 // The number in the field at the front of octets.
-fn first_number(octets: &[u8]) -> Number {
+fn first_number(octets: &[u8]) -> Number
+    ensures { λ r. ⌜ r ≡ numberOf (firstField (now (octets .entry))) ⌝ }
+{
     number_in(first(octets, field_end(octets)))
 }
 
 // The numbers in fields that each have a tab before them, and how many they are; 5 where one is no number, or there are
 // more than 4.
-fn numbers_in(fields: &[u8], values: &mut [u32; 4]) -> usize
-    ensures { λ r. ⌜ r ≤ 5 ⌝ }
+fn numbers_in(fields: &[u8], values: &mut [u32]) -> usize
+    requires { ⌜ length (now values) ≡ 4 ⌝ }
+    ensures { λ r. ⌜ heldIn r (now (values .exit)) ≡ few (numbersOf (tabbedFields (now (fields .entry)))) ⌝ }
 {
     let mut count = 0;
     let mut at = 0;
@@ -140,43 +140,10 @@ fn numbers_in(fields: &[u8], values: &mut [u32; 4]) -> usize
     count
 }
 
-// The word of a call.
-fn word_of(word: &[u8]) -> Word {
-    if check::same(word, b"send") {
-        return Word::Send;
-    }
-    if check::same(word, b"arrive") {
-        return Word::Arrive;
-    }
-    if check::same(word, b"confirm") {
-        return Word::Confirm;
-    }
-    if check::same(word, b"status") {
-        return Word::Status;
-    }
-    if check::same(word, b"accept") {
-        return Word::Accept;
-    }
-    if check::same(word, b"take") {
-        return Word::Take;
-    }
-    if check::same(word, b"expire") {
-        return Word::Expire;
-    }
-    if check::same(word, b"keeper") {
-        return Word::Keeper;
-    }
-    if check::same(word, b"ledger") {
-        return Word::Ledger;
-    }
-    if check::same(word, b"open") {
-        return Word::Open;
-    }
-    Word::Unknown
-}
-
 // A status's sizes, Final and room, of which Final is at most 1 and the room at most 2048.
-fn status_of(desired: u32, minimum: u32, last: u32, room: u32) -> Call {
+fn status_of(desired: u32, minimum: u32, last: u32, room: u32) -> Call
+    ensures { λ r. ⌜ r ≡ statusOf desired minimum last room ⌝ }
+{
     if 1 < last {
         return Call::Unreadable;
     }
@@ -192,55 +159,76 @@ fn status_of(desired: u32, minimum: u32, last: u32, room: u32) -> Call {
 }
 
 // A call without numbers.
-fn bare_call(word: Word) -> Call {
-    match word {
-        Word::Expire => Call::Expire,
-        Word::Take => Call::Take,
-        Word::Keeper => Call::Keeper,
-        Word::Ledger => Call::Ledger,
-        _ => Call::Unreadable,
+fn bare_call(word: &[u8]) -> Call
+    ensures { λ r. ⌜ r ≡ callWith (now (word .entry)) (some []) ⌝ }
+{
+    if same(word, b"expire") {
+        return Call::Expire;
     }
+    if same(word, b"take") {
+        return Call::Take;
+    }
+    if same(word, b"keeper") {
+        return Call::Keeper;
+    }
+    if same(word, b"ledger") {
+        return Call::Ledger;
+    }
+    Call::Unreadable
 }
 
 // A call with one number.
-fn call_of_one(word: Word, a: u32) -> Call {
-    match word {
-        Word::Confirm => Call::Confirm(a),
-        Word::Send => Call::Send(a),
-        _ => Call::Unreadable,
+fn call_of_one(word: &[u8], a: u32) -> Call
+    ensures { λ r. ⌜ r ≡ callWith (now (word .entry)) (some (a ∷ [])) ⌝ }
+{
+    if same(word, b"confirm") {
+        return Call::Confirm(a);
     }
+    if same(word, b"send") {
+        return Call::Send(a);
+    }
+    Call::Unreadable
 }
 
 // A call with two numbers.
-fn call_of_two(word: Word, a: u32, b: u32) -> Call {
-    match word {
-        Word::Arrive => Call::Arrive { number: a, pdcp: b },
-        _ => Call::Unreadable,
+fn call_of_two(word: &[u8], a: u32, b: u32) -> Call
+    ensures { λ r. ⌜ r ≡ callWith (now (word .entry)) (some (a ∷ b ∷ [])) ⌝ }
+{
+    if same(word, b"arrive") {
+        return Call::Arrive { number: a, pdcp: b };
     }
+    Call::Unreadable
 }
 
 // A call with three numbers.
-fn call_of_three(word: Word, a: u32, b: u32, c: u32) -> Call {
-    match word {
-        Word::Open => Call::Open {
+fn call_of_three(word: &[u8], a: u32, b: u32, c: u32) -> Call
+    ensures { λ r. ⌜ r ≡ callWith (now (word .entry)) (some (a ∷ b ∷ c ∷ [])) ⌝ }
+{
+    if same(word, b"open") {
+        return Call::Open {
             length: a,
             first: b,
             pdcp: c,
-        },
-        _ => Call::Unreadable,
+        };
     }
+    Call::Unreadable
 }
 
 // A call with four numbers.
-fn call_of_four(word: Word, a: u32, b: u32, c: u32, d: u32) -> Call {
-    match word {
-        Word::Status => status_of(a, b, c, d),
-        _ => Call::Unreadable,
+fn call_of_four(word: &[u8], a: u32, b: u32, c: u32, d: u32) -> Call
+    ensures { λ r. ⌜ r ≡ callWith (now (word .entry)) (some (a ∷ b ∷ c ∷ d ∷ [])) ⌝ }
+{
+    if same(word, b"status") {
+        return status_of(a, b, c, d);
     }
+    Call::Unreadable
 }
 
 // A call by its word and its numbers.
-fn numbered_call(word: Word, values: &[u32; 4], count: usize) -> Call {
+fn numbered_call(word: &[u8], values: &[u32], count: usize) -> Call
+    requires { ⌜ length (now values) ≡ 4 ⌝ }
+    ensures { λ r. ⌜ r ≡ callWith (now (word .entry)) (heldIn count (now (values .entry))) ⌝ }
+{
     match count {
         0 => bare_call(word),
         1 => call_of_one(word, values[0]),
@@ -251,8 +239,10 @@ fn numbered_call(word: Word, values: &[u32; 4], count: usize) -> Call {
     }
 }
 
-// The frame to accept, in the one field that has a tab before it.
-fn accept_call(fields: &[u8], frame: &mut [u8; 1018]) -> Call {
+// The frame to accept, in the one field that has a tab before it. A tab is no digit.
+fn accept_call(fields: &[u8], frame: &mut [u8; 1018]) -> Call
+    ensures { λ r. ⌜ (r ≡ acceptOf (tabbedFields (now (fields .entry)))) × (now (frame .exit) ≡ decodedBehind (now (fields .entry)) (now (frame .entry))) ⌝ }
+{
     if fields.len() == 0 {
         return Call::Unreadable;
     }
@@ -263,8 +253,10 @@ fn accept_call(fields: &[u8], frame: &mut [u8; 1018]) -> Call {
 }
 
 // The call that a word and the fields behind it, each with a tab before it, say.
-fn call_of(word: Word, fields: &[u8], frame: &mut [u8; 1018]) -> Call {
-    if let Word::Accept = word {
+fn call_of(word: &[u8], fields: &[u8], frame: &mut [u8; 1018]) -> Call
+    ensures { λ r. ⌜ (r ≡ callBy (now (word .entry)) (tabbedFields (now (fields .entry)))) × (now (frame .exit) ≡ frameBy (now (word .entry)) (now (fields .entry)) (now (frame .entry))) ⌝ }
+{
+    if same(word, b"accept") {
         return accept_call(fields, frame);
     }
     let mut values = [0u32; 4];
@@ -273,7 +265,9 @@ fn call_of(word: Word, fields: &[u8], frame: &mut [u8; 1018]) -> Call {
 }
 
 // Reads a line: its word, and the fields behind it.
-pub fn read_call(line: &[u8], frame: &mut [u8; 1018]) -> Call {
+pub fn read_call(line: &[u8], frame: &mut [u8; 1018]) -> Call
+    ensures { λ r. ⌜ (r ≡ readCall (now (line .entry))) × (now (frame .exit) ≡ frameAfter (now (line .entry)) (now (frame .entry))) ⌝ }
+{
     let end = field_end(line);
-    call_of(word_of(first(line, end)), &line[end..], frame)
+    call_of(first(line, end), &line[end..], frame)
 }

@@ -1,13 +1,16 @@
-use Prim.Native.Nat.{ℕ, _+_, _-_, _*_, _^_, _≤_, _<_}
+-- `field_end`: each turn passes a character that is no tab. Assumes nothing.
+use Prim.Native.Nat.{_+_, _-_, _≤_}
 use native.Mathlib.Omega.{arith}
-use mathlib.Core.Path.{_≡_, refl, sym, _∙_, ap}
-use lib.ListN.{length, getD, set, take, drop}
+use mathlib.Core.Path.{_≡_}
+use lib.ListN.{length, drop, drop-of-length-le}
+use Rattle.calling.proofs.Fields.{first-here, first-on}
+use Rattle.calling.specs.Calls.{firstField}
 use borrow.Author.Needs.{needs}
 use Rattle.calling.proofs.field_end.Statement.{statement}
 use Rattle.calling.proofs.field_end.Tie as tie
 
 abbrev Inv-loop : tie.InvT-loop
-Inv-loop octets i₀ i = (i ≤ length octets)
+Inv-loop octets i₀ i = (i ≤ length octets) × (i + length (firstField (drop i octets)) ≡ length (firstField octets))
 
 abbrev μ-loop : tie.MeasureT-loop
 μ-loop octets i₀ i = length octets - i
@@ -19,7 +22,9 @@ shared-slice-read-if1 : tie.Need-shared-slice-read-if1 Inv-loop μ-loop
 shared-slice-read-if1 c = search needs
 
 returns : tie.Need-returns Inv-loop μ-loop
-returns c = search needs
+returns c =
+    let l = c .before .before .before .loop in
+    omega (arith, l .inv .1, first-here (c .before .before .before .before .args .octets .now) (l .i) (c .before .before .loop-test .taken) (c .if1 .taken))
 
 add-i : tie.Need-add-i Inv-loop μ-loop
 add-i c = search needs
@@ -28,10 +33,12 @@ loop-less : tie.Need-loop-less Inv-loop μ-loop
 loop-less c = search needs
 
 loop-again : tie.Need-loop-again Inv-loop μ-loop
-loop-again c = search needs
+loop-again c =
+    let l = c .before .before .before .loop in
+    (omega arith, omega (arith, l .inv .1, first-on (c .before .before .before .before .args .octets .now) (l .i) (c .before .before .loop-test .taken) (c .if1 .left)))
 
 returns-2 : tie.Need-returns-2 Inv-loop μ-loop
-returns-2 c = search needs
+returns-2 c = omega (arith, rw (drop-of-length-le (c .before .before .args .octets .now) (c .loop-test .left)) at (c .before .loop .inv .1))
 
 pub field-end-spec : {M : Type 1} → statement M
 field-end-spec =

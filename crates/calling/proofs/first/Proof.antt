@@ -1,9 +1,7 @@
+-- `first`: all of the octets where there are no more. Assumes nothing.
 use lib.Seq.{length-take-le, take-all}
-use Prim.Native.Nat.{ℕ, zero, suc, _+_, _-_, _*_, _/_, _%_, _^_, _≤_, _<_, min, max}
 use native.Mathlib.Omega.{arith}
-use mathlib.Core.Path.{_≡_, refl, sym, _∙_, ap}
-use lib.ListN.{length, getD, set, take, drop}
-use mathlib.Core.List.{List, [], _∷_, _++_, map}
+use mathlib.Core.Path.{sym}
 use borrow.Author.Needs.{needs}
 use Rattle.calling.proofs.first.Statement.{statement}
 use Rattle.calling.proofs.first.Tie as tie

@@ -1,22 +1,29 @@
-use Prim.Native.Nat.{ℕ, _+_, _-_, _*_, _^_, _≤_, _<_}
+-- `number_in`: each turn reads one more digit; what is left to read says the rest of the number. Assumes nothing.
+use Prim.Native.Nat.{ℕ, _+_, _-_, _*_, _≤_}
 use native.Mathlib.Omega.{arith}
-use mathlib.Core.Path.{_≡_, refl, sym, _∙_, ap}
-use lib.ListN.{length, getD, set, take, drop}
+use mathlib.Core.Path.{_≡_, sym, _∙_, ap}
+use Prim.Native.Char.{code}
+use mathlib.Core.Bool.{true}
+use lib.ListN.{length, getD, drop, drop-of-length-le}
+use Rattle.calling.specs.declared.Number.the-variants.{Value}
+use Rattle.calling.proofs.Numbers.{value-grows, decimal-small, decimal-large, unread-empty, unread-long, unread-other, unread-large, reads, other-here, digits-on, value-on}
+use Rattle.layout.specs.Basics.{all}
+use Rattle.calling.specs.Calls.{isDecimal, valueOf}
 use borrow.Author.Needs.{needs}
 use Rattle.calling.proofs.number_in.Statement.{statement}
 use Rattle.calling.proofs.number_in.Tie as tie
 
 abbrev Inv-loop : tie.InvT-loop
-Inv-loop field value₀ i₀ value i = (i ≤ length field) × (value ≤ 4294967295)
+Inv-loop field value₀ i₀ value i = (i ≤ length field) × (value ≤ 4294967295) × (all isDecimal (drop i field) ≡ all isDecimal field) × (valueOf value (drop i field) ≡ valueOf 0 field)
 
 abbrev μ-loop : tie.MeasureT-loop
 μ-loop field value₀ i₀ value i = length field - i
 
 returns : tie.Need-returns Inv-loop μ-loop
-returns c = search needs
+returns c = sym (unread-empty (c .before .before .args .field .now) (c .if1 .taken))
 
 returns-2 : tie.Need-returns-2 Inv-loop μ-loop
-returns-2 c = search needs
+returns-2 c = sym (unread-long (c .before .before .before .args .field .now) (c .if2 .taken))
 
 loop-holds : tie.Need-loop-holds Inv-loop μ-loop
 loop-holds c = search needs
@@ -28,7 +35,11 @@ digit-requires : tie.Need-digit-requires Inv-loop μ-loop
 digit-requires c κs = search needs
 
 returns-3 : tie.Need-returns-3 Inv-loop μ-loop
-returns-3 c = search needs
+returns-3 c =
+    let f = c .before .before .before .before .before .before .before .before .args .field .now in
+    let l = c .before .before .before .before .loop in
+    let test = c .before .before .before .loop-test .taken in
+    sym (unread-other f (sym (l .inv .2) ∙ other-here f (l .i) test (decimal-large (getD f (l .i) 0) (omega (arith, c .before .digit .ensures, c .if3 .taken)))))
 
 mul-value : tie.Need-mul-value Inv-loop μ-loop
 mul-value c = search needs
@@ -36,8 +47,22 @@ mul-value c = search needs
 add-value : tie.Need-add-value Inv-loop μ-loop
 add-value c = search needs
 
+-- the character was a digit
+here : (c : tie.Else3 Inv-loop μ-loop)
+    → let x = getD (c .before .before .before .before .before .before .before .before .args .field .now) (c .before .before .before .before .loop .i) 0 in
+    (isDecimal x ≡ true) × (c .before .digit .result ≡ x - code "0")
+here c =
+    let x = getD (c .before .before .before .before .before .before .before .before .args .field .now) (c .before .before .before .before .loop .i) 0 in
+    let p = decimal-small x (omega (arith, c .before .digit .ensures, c .if3 .left)) in
+    (p .0, c .before .digit .ensures ∙ p .1)
+
 returns-4 : tie.Need-returns-4 Inv-loop μ-loop
-returns-4 c = search needs
+returns-4 c =
+    let f = c .before .before .before .before .before .before .before .before .before .args .field .now in
+    let l = c .before .before .before .before .before .loop in
+    let test = c .before .before .before .before .loop-test .taken in
+    let v = l .value * 10 + (getD f (l .i) 0 - code "0") in
+    sym (unread-large f (omega (arith, l .inv .3, value-on f (l .i) test (l .value), value-grows v (drop (l .i + 1) f), here (c .before) .1, c .if4 .taken)))
 
 add-i : tie.Need-add-i Inv-loop μ-loop
 add-i c = search needs
@@ -46,13 +71,28 @@ loop-less : tie.Need-loop-less Inv-loop μ-loop
 loop-less c = search needs
 
 loop-again : tie.Need-loop-again Inv-loop μ-loop
-loop-again c = search needs
+loop-again c =
+    let f = c .before .before .before .before .before .before .before .before .before .args .field .now in
+    let l = c .before .before .before .before .before .loop in
+    let test = c .before .before .before .before .loop-test .taken in
+    let p = here (c .before) in (
+      omega arith,
+      omega (arith, c .if4 .left),
+      digits-on f (l .i) test (p .0) ∙ l .inv .2,
+      ap (λ (k : ℕ). valueOf (l .value * 10 + k) (drop (l .i + 1) f)) (p .1) ∙ sym (value-on f (l .i) test (l .value)) ∙ l .inv .3
+    )
 
 cast-t12 : tie.Need-cast-t12 Inv-loop μ-loop
 cast-t12 c = search needs
 
 returns-5 : tie.Need-returns-5 Inv-loop μ-loop
-returns-5 c = search needs
+returns-5 c =
+    let f = c .before .before .before .before .before .args .field .now in
+    let l = c .before .loop in
+    let none = drop-of-length-le f (c .loop-test .left) in
+    let digits = sym (rw none at (l .inv .2)) in
+    let value = rw none at (l .inv .3) in
+    ap Value value ∙ sym (reads f (c .before .before .before .if1 .left) (c .before .before .if2 .left) digits (omega (arith, value, l .inv .1)))
 
 pub number-in-spec : {M : Type 1} → statement M
 number-in-spec =
