@@ -4,6 +4,7 @@ ghost use mathlib.Core.Path.{_≡_};
 ghost use Prim.Native.Nat.{_+_, _≤_, _<_, min};
 ghost use lib.Dec.{leb};
 ghost use lib.ListN.{length, take};
+ghost use Rattle.replaying.specs.Playing.{takesLedger};
 use calling::Call;
 use keeper::Confirmed;
 use keeper::Counted;
@@ -521,19 +522,31 @@ pub fn has_room(size: usize, at: usize) -> bool
     listing::fits(size, at, MOST_TEXT)
 }
 
-// Whether a call is made on the master, or opens it.
-pub fn takes_ledger(call: Call, opened: bool) -> bool {
+// Whether a call takes the ledger: an open does, and on ends that are open the calls on the master.
+pub fn takes_ledger(call: Call, opened: bool) -> bool
+    ensures { λ r. ⌜ r ≡ takesLedger call opened ⌝ }
+{
     match call {
         Call::Open {
             length: _,
             first: _,
             pdcp: _,
         } => true,
+        Call::Arrive { number: _, pdcp: _ } => false,
+        Call::Expire => false,
+        Call::Confirm(_) => false,
+        Call::Status {
+            desired: _,
+            minimum: _,
+            last: _,
+            room: _,
+        } => false,
         Call::Send(_) => opened,
         Call::Accept(_) => opened,
         Call::Take => opened,
+        Call::Keeper => false,
         Call::Ledger => opened,
-        _ => false,
+        Call::Unreadable => false,
     }
 }
 

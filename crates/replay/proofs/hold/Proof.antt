@@ -1,7 +1,7 @@
-use Prim.Native.Nat.{ℕ, _+_, _-_, _*_, _^_, _≤_, _<_}
+-- `hold`: what is laid ends within the buffer. Assumes nothing.
+use Prim.Native.Nat.{_-_}
 use native.Mathlib.Omega.{arith}
-use mathlib.Core.Path.{_≡_, refl, sym, _∙_, ap}
-use lib.ListN.{length, getD, set, take, drop}
+use lib.ListN.{take}
 use Rattle.replaying.proofs.Fitting.{laid-within}
 use borrow.Author.Needs.{needs}
 use Rattle.replay.proofs.hold.Statement.{statement}

@@ -1,7 +1,8 @@
-use Prim.Native.Nat.{ℕ, _+_, _-_, _*_, _^_, _≤_, _<_}
+-- `play_block`: each turn takes something of the block; answers end within the output. Assumes nothing.
+use Prim.Native.Nat.{_+_, _-_, _≤_, _<_}
 use native.Mathlib.Omega.{arith}
-use mathlib.Core.Path.{_≡_, refl, sym, _∙_, ap}
-use lib.ListN.{length, take, drop, length-take, length-drop}
+use mathlib.Core.Path.{_≡_, refl, _∙_}
+use lib.ListN.{length, length-take, length-drop}
 use borrow.Author.Needs.{needs}
 use Rattle.replay.proofs.play_block.Statement.{statement}
 use Rattle.replay.proofs.play_block.Tie as tie

@@ -1,7 +1,4 @@
-use Prim.Native.Nat.{ℕ, _+_, _-_, _*_, _^_, _≤_, _<_}
-use native.Mathlib.Omega.{arith}
-use mathlib.Core.Path.{_≡_, refl, sym, _∙_, ap}
-use lib.ListN.{length, getD, set, take, drop}
+-- `put`: a text where it fits ends within the output. Assumes nothing.
 use borrow.Author.Needs.{needs}
 use Rattle.replaying.proofs.Fitting.{laid-within}
 use Rattle.replaying.proofs.put.Statement.{statement}
