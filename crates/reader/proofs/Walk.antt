@@ -140,23 +140,37 @@ few-at : (listed : Bool) (n : ℕ) → countRefused listed (if listed then n els
 few-at true n e = ltb-false mostRanges n (or-false (eqb n 0) (ltb mostRanges n) e .1)
 few-at false n e = omega arith
 
-few-read : (s : List ℕ) (h : Head) (f : Framed) → meant f ≡ readingOf s (frame.Status h) → Read s f → h .count ≤ mostRanges
-few-read s h f e (as-data long t) = apart (cc)
-few-read s h f e (as-status long t fits) =
-    let w = width long in
-    let same = same-status _ _ e in
-    let count : h .count ≡ countIn s w = sym (length-rangesAt s _ _ (h .count)) ∙ ap (λ (x : Status). length (x .ranges)) (sym same) ∙ length-rangesAt s _ _ (countIn s w) in
-    rw count (few-at (listedIn s) (getD s (countAt w) 0) (fits .count-in))
-
--- a status that was read has no more ranges than a frame carries
-pub few-ranges : (s : List ℕ) (h : Head) → readingOf s (frame.Status h) ≡ readFrame s → h .count ≤ mostRanges
-few-ranges s h e = few-read s h (status-frame _) refl (frame-read s (status-frame _) (sym e) .1)
-
 -- the frame holds the ranges from the first cursor on
 pub held-first : (s : List ℕ) (h : Head) → readingOf s (frame.Status h) ≡ readFrame s → Held s (cursorOf h)
 held-first s h e =
     let r = frame-read s (status-frame _) (sym e) in
     held-read s h (status-frame _) refl (r .0) (r .1)
+
+-- the cursor before a status's ranges
+abbrev pub before : Status → Cursor
+before st = record { long = st .long; place = listAt (width (st .long)); left = length (st .ranges) }
+
+-- a status that was read stands in the frame, no more ranges than a frame carries, and they are ahead of that cursor
+pub record Stands (s : List ℕ) (st : Status) : Type 0 where
+  pub held : Held s (before st)
+  pub few : length (st .ranges) ≤ mostRanges
+  pub there : ahead s (before st) ≡ st .ranges
+
+stands-read : (s : List ℕ) (st : Status) (f : Framed) → meant f ≡ status-of st → GoodLength (length s) → Read s f → Stands s st
+stands-read s st f e g (as-data long t) = apart (cc)
+stands-read s st f e g (as-status long t fits) =
+    let w = width long in
+    let count : length (rangesAt s w (listAt w) (countIn s w)) ≡ countIn s w = length-rangesAt s w (listAt w) (countIn s w) in
+    rw (← same-status _ _ e) (record {
+      held = rw count (list-held long (listedIn s) (getD s (countAt w) 0) (length s) (g .phase) (fits .list-in));
+      few = rw count (few-at (listedIn s) (getD s (countAt w) 0) (fits .count-in));
+      there = rw count
+    })
+
+pub stands : (s : List ℕ) (st : Status) → readFrame s ≡ status-of st → Stands s st
+stands s st e =
+    let r = frame-read s (status-frame st) e in
+    stands-read s st (status-frame st) refl (r .0) (r .1)
 
 -- the walk over a frame that is read as a status answers the status's ranges
 pub whole-walk : (s : List ℕ) (h : Head) (st : Status) → readingOf s (frame.Status h) ≡ readFrame s → readFrame s ≡ status-of st

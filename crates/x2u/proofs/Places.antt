@@ -1,7 +1,7 @@
--- Where a cursor stands: a frame's list begins near its front, behind a range that was read is still within the frame, and
--- octets longer than any frame have no range.
+-- Where a cursor stands: behind a range that was read is still within the frame, and octets longer than any frame have no
+-- range.
 -- Assumes nothing.
-use mathlib.Core.Path.{_≡_, refl, sym, _∙_, ap}
+use mathlib.Core.Path.{_≡_, refl, _∙_, ap}
 use mathlib.Core.Bool.{Bool, true, false}
 use mathlib.Core.List.{List}
 use Prim.Native.Nat.{ℕ, _+_, _*_, _≤_, _<_}
@@ -10,16 +10,12 @@ use borrow.Author.Tests.{lt-ltb, le-ltb, ltb-false}
 use lib.Dec.{ltb, eqb}
 use lib.ListN.{length}
 use Rattle.layout.specs.Basics.{if_then_else_, _or_}
-use Rattle.layout.specs.Frames.{width, listAt, mostOctets}
+use Rattle.layout.specs.Frames.{width, mostOctets}
 use Rattle.reader.specs.declared.Cursor.{Cursor}
 use Rattle.reader.specs.declared.Step.{Step}
 use Rattle.reader.specs.declared.Step.the-variants.{Range, End}
 use Rattle.reader.specs.Answers.{nextIn}
 use Rattle.x2u.specs.Boundary.{stepIn}
-
-pub list-near : (long : Bool) → listAt (width long) ≤ 13
-list-near true = omega arith
-list-near false = omega arith
 
 -- neither of two tests holds, so the second doesn't
 second-fails : (a b : Bool) → a or b ≡ false → b ≡ false

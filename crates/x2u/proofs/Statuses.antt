@@ -1,27 +1,95 @@
--- What is left of a status that was read: the count in its head is how many ranges it has.
+-- What was read, by its type: the answer, and of a status the cursor before its ranges.
 -- Assumes nothing.
-use mathlib.Core.Path.{_≡_, refl}
+use mathlib.Core.Path.{_≡_, refl, _∙_, ap}
+use mathlib.Core.Bool.{Bool, true, false}
 use mathlib.Core.List.{List, [], _∷_}
-use Prim.Native.Nat.{ℕ}
+use Prim.Native.Nat.{ℕ, _≤_, _<_}
+use native.Mathlib.Omega.{arith}
 use lib.IntN.{pos}
-use lib.Seq.{sets}
+use lib.ListN.{length, getD}
 use Rattle.layout.specs.Basics.{bit}
-use Rattle.layout.specs.Frames.{statusType, width, listAt}
+use Rattle.layout.specs.Frames.{Status, Reading, data-of, status-of, refuse, statusType, width, listAt, readFrame}
 use Rattle.layout.proofs.Octets.{length-rangesAt}
 use Rattle.reader.specs.declared.Head.{Head}
-use Rattle.reader.specs.declared.Frame.the-variants.{Status}
-use Rattle.reader.specs.Answers.{readingOf, cursorOf, ahead}
-use Rattle.x2u.specs.Boundary.{leaves, reads, begins, wordsOf, startsOf, endsOf, readsAll}
+use Rattle.reader.specs.declared.Frame.the-variants as read
+use Rattle.reader.specs.declared.Cursor.{Cursor}
+use Rattle.reader.specs.Answers.{readingOf, ahead, Held}
+use Rattle.reader.proofs.Walk.{before, stands}
+use Rattle.x2u.specs.Boundary.{minus, leaves, kindOf, refusalOf, isStatus, answerTo, typeOf, fieldsOf, rangesIn, firstOf, begins, wordsOf}
 
-module _ (s old : List ℕ) (h : Head) where
-  pub status-fields : leaves (pos (statusType (h .long))) (h .highest ∷ h .desired ∷ h .minimum ∷ bit (h .last) ∷ h .count ∷ 0 ∷ []) ≡ reads old (readingOf s (Status h))
-  status-fields = rw (length-rangesAt s (width (h .long)) (listAt (width (h .long))) (h .count))
+-- where two Bools would be equal, `cc` shows that 0 is 1
+apart : {A : Type 0} → _≡_ {A = ℕ} 0 1 → A
+apart e = absurd (omega arith)
 
-  pub status-cursor : leaves (pos (h .count)) (wordsOf (cursorOf h)) ≡ begins old (readingOf s (Status h))
-  status-cursor = rw (length-rangesAt s (width (h .long)) (listAt (width (h .long))) (h .count))
+-- the answer is the type or the refusal
+pub told : (r : Reading) → answerTo (kindOf r) (refusalOf r) ≡ typeOf r
+told (data-of true n) = refl
+told (data-of false n) = refl
+told (status-of s) = by (s .long)
+  where
+    by : (b : Bool) → answerTo (statusType b) 0 ≡ pos (statusType b)
+    by true = refl
+    by false = refl
+told (refuse n) = refl
 
-  pub status-all : (starts ends : List ℕ)
-      → leaves (pos (statusType (h .long)))
-      (h .highest ∷ h .desired ∷ h .minimum ∷ bit (h .last) ∷ h .count ∷ 0 ∷ [], sets starts 0 (startsOf (ahead s (cursorOf h))), sets ends 0 (endsOf (ahead s (cursorOf h))))
-      ≡ readsAll old starts ends (readingOf s (Status h))
-  status-all starts ends = rw (length-rangesAt s (width (h .long)) (listAt (width (h .long))) (h .count))
+-- the count in a status's head is how many ranges it has
+pub status-fields : (s old : List ℕ) (h : Head) → h .highest ∷ h .desired ∷ h .minimum ∷ bit (h .last) ∷ h .count ∷ 0 ∷ [] ≡ fieldsOf old (readingOf s (read.Status h))
+status-fields s old h = rw (length-rangesAt s (width (h .long)) (listAt (width (h .long))) (h .count))
+
+-- the cursor before a status's first range, by its type
+first-is : (b : Bool) (st : Status) → st .long ≡ b → firstOf (statusType b) (length (st .ranges)) ≡ before st
+first-is true st e = rw e
+first-is false st e = rw e
+
+-- what a look says of the ranges of a status
+pub record Listed (s old : List ℕ) (r : Reading) : Type 0 where
+  pub held : Held s (firstOf (kindOf r) (getD (fieldsOf old r) 4 0))
+  pub few : firstOf (kindOf r) (getD (fieldsOf old r) 4 0) .left ≤ 162
+  pub there : ahead s (firstOf (kindOf r) (getD (fieldsOf old r) 4 0)) ≡ rangesIn r
+
+pub listed : (s old : List ℕ) (r : Reading) → readFrame s ≡ r → isStatus (kindOf r) ≡ true → Listed s old r
+listed s old (data-of true n) e t = apart (cc)
+listed s old (data-of false n) e t = apart (cc)
+listed s old (status-of st) e t =
+    let x = stands s st e in
+    let c = first-is (st .long) st refl in
+    record { held = rw c (x .held); few = rw c (x .few); there = ap (ahead s) c ∙ x .there }
+listed s old (refuse n) e t = apart (cc)
+
+-- no status has no ranges
+pub unlisted : (r : Reading) → isStatus (kindOf r) ≡ false → rangesIn r ≡ []
+unlisted (data-of long n) t = refl
+unlisted (status-of st) t = by (st .long) t
+  where
+    by : (b : Bool) → isStatus (statusType b) ≡ false → st .ranges ≡ []
+    by true t = apart (cc)
+    by false t = apart (cc)
+unlisted (refuse n) t = refl
+
+-- ---- the first range
+
+module _ (old : List ℕ) where
+  pub begins-refused : (r : Reading) → 3 < kindOf r → leaves (minus (refusalOf r)) old ≡ begins old r
+  begins-refused (data-of true n) h = absurd (omega arith)
+  begins-refused (data-of false n) h = absurd (omega arith)
+  begins-refused (status-of st) h = by (st .long) h
+    where
+      by : (b : Bool) → 3 < statusType b → leaves (minus 0) old ≡ begins old (status-of st)
+      by true h = absurd (omega arith)
+      by false h = absurd (omega arith)
+  begins-refused (refuse n) h = refl
+
+  pub begins-data : (r : Reading) → kindOf r ≤ 3 → isStatus (kindOf r) ≡ false → leaves (pos 0) (0 ∷ 0 ∷ 0 ∷ []) ≡ begins old r
+  begins-data (data-of long n) h t = refl
+  begins-data (status-of st) h t = by (st .long) t
+    where
+      by : (b : Bool) → isStatus (statusType b) ≡ false → leaves (pos 0) (0 ∷ 0 ∷ 0 ∷ []) ≡ begins old (status-of st)
+      by true t = apart (cc)
+      by false t = apart (cc)
+  begins-data (refuse n) h t = absurd (omega arith)
+
+  pub begins-status : (zeros : List ℕ) (r : Reading) → isStatus (kindOf r) ≡ true → (c : Cursor) → c ≡ firstOf (kindOf r) (getD (fieldsOf zeros r) 4 0) → leaves (pos (c .left)) (wordsOf c) ≡ begins old r
+  begins-status zeros (data-of true n) t c e = apart (cc)
+  begins-status zeros (data-of false n) t c e = apart (cc)
+  begins-status zeros (status-of st) t c e = rw (e ∙ first-is (st .long) st refl)
+  begins-status zeros (refuse n) t c e = apart (cc)

@@ -1,13 +1,14 @@
 -- What the C boundary answers and leaves, by the definitions that the contracts of the crates below it cite.
 -- An answer is one integer: from 0 on what document 01 answers, below 0 a refusal.
 -- Assumes nothing.
+use mathlib.Core.Bool.{Bool, true, false}
 use mathlib.Core.List.{List, [], _∷_, map}
 use Prim.Native.Nat.{ℕ}
-use lib.Dec.{ltb}
+use lib.Dec.{ltb, eqb}
 use lib.IntN.{ℤ, pos, negℤ}
 use lib.ListN.{length, getD}
 use lib.Seq.{sets}
-use Rattle.layout.specs.Basics.{if_then_else_, bit, Outcome, done, refused}
+use Rattle.layout.specs.Basics.{if_then_else_, _or_, bit, Outcome, done, refused}
 use Rattle.layout.specs.Frames as frames
 use Rattle.layout.specs.Frames.{Reading, data-of, status-of, refuse, Written, dataType, statusType, width, listAt, mostOctets}
 use Rattle.bearer.specs.Bearer.{After}
@@ -61,12 +62,42 @@ reports a = leaves (answerOf itself (a .answer)) (a .state, a .buffer)
 
 -- ---- the reader
 
--- the type, and the fields in place of what was there: of data the number, of a status the highest PDCP number, desired
--- size, minimum size, Final and how many ranges. A refusal leaves what was there.
-abbrev pub reads : List ℕ → Reading → Left (List ℕ)
-reads old (data-of long n) = leaves (pos (dataType long)) (n ∷ 0 ∷ 0 ∷ 0 ∷ 0 ∷ 0 ∷ [])
-reads old (status-of s) = leaves (pos (statusType (s .long))) (s .highest ∷ s .desired ∷ s .minimum ∷ bit (s .final) ∷ length (s .ranges) ∷ 0 ∷ [])
-reads old (refuse n) = leaves (minus n) old
+-- what is read: its type from 0 to 3, or 4 for a refusal, and the refusal's number
+abbrev pub kindOf : Reading → ℕ
+kindOf (data-of long n) = dataType long
+kindOf (status-of s) = statusType (s .long)
+kindOf (refuse n) = 4
+
+abbrev pub refusalOf : Reading → ℕ
+refusalOf (data-of long n) = 0
+refusalOf (status-of s) = 0
+refusalOf (refuse n) = n
+
+-- a status is of type 1 or 2
+abbrev pub isStatus : ℕ → Bool
+isStatus kind = eqb kind 1 or eqb kind 2
+
+-- the answer to it: the type, or minus the refusal's number
+abbrev pub answerTo : ℕ → ℕ → ℤ
+answerTo kind refusal = if ltb kind 4 then pos kind else minus refusal
+
+abbrev pub typeOf : Reading → ℤ
+typeOf (data-of long n) = pos (dataType long)
+typeOf (status-of s) = pos (statusType (s .long))
+typeOf (refuse n) = minus n
+
+-- the fields in place of what was there: of data the number, of a status the highest PDCP number, desired size, minimum size,
+-- Final and how many ranges. A refusal leaves what was there.
+abbrev pub fieldsOf : List ℕ → Reading → List ℕ
+fieldsOf old (data-of long n) = n ∷ 0 ∷ 0 ∷ 0 ∷ 0 ∷ 0 ∷ []
+fieldsOf old (status-of s) = s .highest ∷ s .desired ∷ s .minimum ∷ bit (s .final) ∷ length (s .ranges) ∷ 0 ∷ []
+fieldsOf old (refuse n) = old
+
+-- the ranges of a status
+abbrev pub rangesIn : Reading → List frames.Range
+rangesIn (data-of long n) = []
+rangesIn (status-of s) = s .ranges
+rangesIn (refuse n) = []
 
 -- the first and the last numbers of ranges
 abbrev pub startsOf : List frames.Range → List ℕ
@@ -75,14 +106,17 @@ startsOf rs = map (λ (r : frames.Range). r .start) rs
 abbrev pub endsOf : List frames.Range → List ℕ
 endsOf rs = map (λ (r : frames.Range). r .end) rs
 
--- the type and the fields, and the ranges of a status at the front of two arrays, in place of what was there. A refusal leaves
--- what was there.
+-- the type and the fields
+abbrev pub reads : List ℕ → Reading → Left (List ℕ)
+reads old r = leaves (typeOf r) (fieldsOf old r)
+
+-- the same with the ranges at the front of two arrays, in place of what was there
 abbrev pub readsAll : List ℕ → List ℕ → List ℕ → Reading → Left (List ℕ × List ℕ × List ℕ)
-readsAll old starts ends (data-of long n) = leaves (pos (dataType long)) (n ∷ 0 ∷ 0 ∷ 0 ∷ 0 ∷ 0 ∷ [], starts, ends)
-readsAll old starts ends (status-of s) =
-    leaves (pos (statusType (s .long)))
-    (s .highest ∷ s .desired ∷ s .minimum ∷ bit (s .final) ∷ length (s .ranges) ∷ 0 ∷ [], sets starts 0 (startsOf (s .ranges)), sets ends 0 (endsOf (s .ranges)))
-readsAll old starts ends (refuse n) = leaves (minus n) (old, starts, ends)
+readsAll old starts ends r = leaves (typeOf r) (fieldsOf old r, sets starts 0 (startsOf (rangesIn r)), sets ends 0 (endsOf (rangesIn r)))
+
+-- the cursor before the first of so many ranges of a status of this type
+abbrev pub firstOf : ℕ → ℕ → Cursor
+firstOf kind count = if eqb kind 2 then record { long = true; place = listAt (width true); left = count } else record { long = false; place = listAt (width false); left = count }
 
 -- a cursor is three words: its form, its place, and how many ranges are left
 abbrev pub cursorIn : List ℕ → Cursor

@@ -12,22 +12,31 @@ ghost use Rattle.layout.specs.Frames.{dataType, statusType, rangesOf, readFrame
 ghost use Rattle.bearer.specs.Keeper.{openKeeper, arrive, expire, confirm, status};
 ghost use Rattle.reader.specs.Answers.{ahead, Held};
 ghost use Rattle.keeper.specs.View.{isSet, keeperIn, opensInto, arrays};
-ghost use Rattle.x2u.specs.Boundary.{minus, leaves, writes, counts, settles, reports, reads, startsOf, endsOf, readsAll, cursorIn, begins, stepIn, steps};
+ghost use Rattle.x2u.specs.Boundary.{minus, leaves, writes, counts, settles, reports, kindOf, refusalOf, fieldsOf, answerTo, isStatus, firstOf, reads, startsOf, endsOf, readsAll, cursorIn, begins, stepIn, steps};
 
 const MOST_OCTETS: usize = 1018; // the greatest length of a frame
 
 // ---- reading
 
-// Reads a frame: its type, 0 to 3. Of data the first field is the number; of a status they are the highest PDCP number,
-// the desired size, the minimum size, Final as 0 or 1, and how many ranges. Every other field is 0.
-#[no_mangle]
-pub extern "C" fn x2u_read(frame: &[u8], fields: &mut [u32; 6]) -> i64
-    ensures { λ r. ⌜ leaves r (now (fields .exit)) ≡ reads (now (fields .entry)) (readFrame (now (frame .entry))) ⌝ }
+// What a look at a frame tells: its type, 0 to 3, or 4 and the number of a refusal. Two words, so that they pass in registers.
+struct Seen {
+    kind: u32,
+    refusal: u32,
+}
+
+// Reads a frame into its fields. The one place that calls the reader: where a function has one caller the compiler makes
+// one of both, and the reader's answer then passes through no memory.
+fn look(frame: &[u8], fields: &mut [u32; 6]) -> Seen
+    ensures { λ r. ⌜ (r .kind ≡ kindOf (readFrame (now (frame .entry)))) × (r .refusal ≡ refusalOf (readFrame (now (frame .entry))))
+        × (now (fields .exit) ≡ fieldsOf (now (fields .entry)) (readFrame (now (frame .entry)))) ⌝ }
 {
     match reader::read(frame) {
         reader::Frame::Data { long, number } => {
             put_fields(fields, number, 0, 0, 0, 0);
-            data_type(long)
+            Seen {
+                kind: data_kind(long),
+                refusal: 0,
+            }
         }
         reader::Frame::Status(head) => {
             put_fields(
@@ -38,10 +47,64 @@ pub extern "C" fn x2u_read(frame: &[u8], fields: &mut [u32; 6]) -> i64
                 flag(head.last),
                 head.count,
             );
-            status_type(head.long)
+            Seen {
+                kind: status_kind(head.long),
+                refusal: 0,
+            }
         }
-        reader::Frame::Refused(n) => refused(n),
+        reader::Frame::Refused(n) => Seen {
+            kind: 4,
+            refusal: n,
+        },
     }
+}
+
+// The answer to what was seen.
+fn answer(seen: Seen) -> i64
+    ensures { λ r. ⌜ r ≡ answerTo (seen .kind) (seen .refusal) ⌝ }
+{
+    if seen.kind < 4 {
+        return value(seen.kind);
+    }
+    refused(seen.refusal)
+}
+
+// Whether a status was seen.
+fn is_status(kind: u32) -> bool
+    ensures { λ r. ⌜ r ≡ isStatus kind ⌝ }
+{
+    if kind == 1 {
+        return true;
+    }
+    kind == 2
+}
+
+// The cursor before the first of so many ranges of a status of this type.
+fn first_of(kind: u32, count: u32) -> reader::Cursor
+    ensures { λ r. ⌜ (r ≡ firstOf kind count) × (r .place ≤ 13) ⌝ }
+{
+    if kind == 2 {
+        return reader::Cursor {
+            long: true,
+            place: 13,
+            left: count,
+        };
+    }
+    reader::Cursor {
+        long: false,
+        place: 12,
+        left: count,
+    }
+}
+
+// Reads a frame: its type, 0 to 3. Of data the first field is the number; of a status they are the highest PDCP number,
+// the desired size, the minimum size, Final as 0 or 1, and how many ranges. Every other field is 0.
+#[no_mangle]
+pub extern "C" fn x2u_read(frame: &[u8], fields: &mut [u32; 6]) -> i64
+    ensures { λ r. ⌜ leaves r (now (fields .exit)) ≡ reads (now (fields .entry)) (readFrame (now (frame .entry))) ⌝ }
+{
+    let seen = look(frame, fields);
+    answer(seen)
 }
 
 // Reads a frame with all its ranges in one call: the type and the fields as x2u_read has them, and the ranges at the front of
@@ -51,25 +114,12 @@ pub extern "C" fn x2u_read_all(frame: &[u8], fields: &mut [u32; 6], starts: &mut
     ensures { λ r. ⌜ leaves r ((now (fields .exit)), (now (starts .exit)), (now (ends .exit)))
         ≡ readsAll (now (fields .entry)) (now (starts .entry)) (now (ends .entry)) (readFrame (now (frame .entry))) ⌝ }
 {
-    match reader::read(frame) {
-        reader::Frame::Data { long, number } => {
-            put_fields(fields, number, 0, 0, 0, 0);
-            data_type(long)
-        }
-        reader::Frame::Status(head) => {
-            put_fields(
-                fields,
-                head.highest,
-                head.desired,
-                head.minimum,
-                flag(head.last),
-                head.count,
-            );
-            put_ranges(frame, reader::first_range(head), starts, ends);
-            status_type(head.long)
-        }
-        reader::Frame::Refused(n) => refused(n),
+    let seen = look(frame, fields);
+    if is_status(seen.kind) {
+        put_ranges(frame, first_of(seen.kind, fields[4]), starts, ends);
+        return answer(seen);
     }
+    answer(seen)
 }
 
 // Puts the ranges from a cursor on at the front of starts and ends.
@@ -96,18 +146,18 @@ fn put_ranges(frame: &[u8], first: reader::Cursor, starts: &mut [u32; 162], ends
 pub extern "C" fn x2u_first_range(frame: &[u8], cursor: &mut [u32; 3]) -> i64
     ensures { λ r. ⌜ leaves r (now (cursor .exit)) ≡ begins (now (cursor .entry)) (readFrame (now (frame .entry))) ⌝ }
 {
-    match reader::read(frame) {
-        reader::Frame::Data { long: _, number: _ } => {
-            put_cursor(cursor, 0, 0, 0);
-            0
-        }
-        reader::Frame::Status(head) => {
-            let at = reader::first_range(head);
-            put_cursor(cursor, flag(at.long), at.place as u32, at.left);
-            value(at.left)
-        }
-        reader::Frame::Refused(n) => refused(n),
+    let mut fields = [0; 6];
+    let seen = look(frame, &mut fields);
+    if 3 < seen.kind {
+        return refused(seen.refusal);
     }
+    if !is_status(seen.kind) {
+        put_cursor(cursor, 0, 0, 0);
+        return 0;
+    }
+    let at = first_of(seen.kind, fields[4]);
+    put_cursor(cursor, flag(at.long), at.place as u32, at.left);
+    value(at.left)
 }
 
 // Takes the range at a cursor: 1, or 0 where none is left.
@@ -341,15 +391,15 @@ fn octets(n: usize) -> i64
 }
 
 // The type of a data frame.
-fn data_type(long: bool) -> i64
-    ensures { λ r. ⌜ r ≡ pos (dataType long) ⌝ }
+fn data_kind(long: bool) -> u32
+    ensures { λ r. ⌜ r ≡ dataType long ⌝ }
 {
     if long { 3 } else { 0 }
 }
 
 // The type of a status frame.
-fn status_type(long: bool) -> i64
-    ensures { λ r. ⌜ r ≡ pos (statusType long) ⌝ }
+fn status_kind(long: bool) -> u32
+    ensures { λ r. ⌜ r ≡ statusType long ⌝ }
 {
     if long { 2 } else { 1 }
 }

@@ -1,95 +1,77 @@
--- `x2u_read_all`: what was read, as a type, fields, and its ranges at the front of the arrays. Assumes nothing.
-use mathlib.Core.Path.{_≡_, sym, _∙_, ap}
+-- `x2u_read_all`: the answer to what was seen, its fields, and of a status its ranges. Assumes nothing.
+use mathlib.Core.Path.{refl, sym, _∙_, ap}
+use lib.IntN.{ℤ}
 use Rattle.layout.specs.Frames.{readFrame}
-use Rattle.reader.specs.declared.Frame.the-variants.{Status}
-use Rattle.reader.specs.Answers.{readingOf}
-use Rattle.reader.proofs.Walk.{held-first, few-ranges}
-use Rattle.x2u.proofs.Statuses.{status-all}
+use Rattle.x2u.specs.Boundary.{leaves, fieldsOf, rangesIn, startsOf, endsOf}
+use lib.Seq.{sets}
 use Rattle.x2u.proofs.Answers.{left-as}
-use Rattle.x2u.specs.Boundary.{readsAll}
+use Rattle.x2u.proofs.Statuses.{told, listed, unlisted}
 use borrow.Author.Needs.{needs}
 use Rattle.x2u.proofs.x2u_read_all.Statement.{statement}
 use Rattle.x2u.proofs.x2u_read_all.Tie as tie
 
--- the status that was read is the frame's
-is-read : (k : tie.After-put-fields2) → readingOf (k .before .before .before .before .before .before .before .before .args .frame .now) (Status (k .before .before .before .before .head .given .0 .0)) ≡ readFrame (k .before .before .before .before .before .before .before .before .args .frame .now)
-is-read k = rw (k .before .before .before .before .head .given .1) at (k .before .before .before .before .before .before .read .ensures)
+look-requires : tie.Need-look-requires
+look-requires c κs = search needs
 
-read-requires : tie.Need-read-requires
-read-requires c κs = search needs
+is-status-requires : tie.Need-is-status-requires
+is-status-requires c κs = search needs
 
-enum-known-long : tie.Need-enum-known-long
-enum-known-long c = search needs
+element-copy-out-first-of : tie.Need-element-copy-out-first-of
+element-copy-out-first-of c = search needs
 
-put-fields-requires : tie.Need-put-fields-requires
-put-fields-requires c κs = search needs
-
-data-type-requires : tie.Need-data-type-requires
-data-type-requires c κs = search needs
-
-enum-known-head : tie.Need-enum-known-head
-enum-known-head c = search needs
-
-flag-requires : tie.Need-flag-requires
-flag-requires c κs = search needs
-
-put-fields-requires-2 : tie.Need-put-fields-requires-2
-put-fields-requires-2 c κs = search needs
-
-first-range-requires : tie.Need-first-range-requires
-first-range-requires c κs = search needs
+first-of-requires : tie.Need-first-of-requires
+first-of-requires c κs = search needs
 
 put-ranges-requires : tie.Need-put-ranges-requires
 put-ranges-requires c κs =
-    let k = c .before .before .before in
-    rw (c .before .before .first-range .ensures) (held-first (k .before .before .before .before .before .before .before .before .args .frame .now) (k .before .before .before .before .head .given .0 .0) (is-read k), few-ranges (k .before .before .before .before .before .before .before .before .args .frame .now) (k .before .before .before .before .head .given .0 .0) (is-read k))
+    let k = c .before .before .before .before .before .before in
+    let a = k .before .before .before .args in
+    let seen = k .look .ensures in
+    let t = rw (seen .0) at (sym (c .before .before .before .before .before .is-status .ensures) ∙ c .before .before .before .before .if1 .taken) in
+    let at = rw (seen .0, seen .2) at (c .before .before .first-of .ensures .0) in
+    let l = listed (a .frame .now) (a .fields .now) _ refl t in
+    (rw at (l .held), rw at (l .few))
 
-status-type-requires : tie.Need-status-type-requires
-status-type-requires c κs = search needs
-
-enum-known-n : tie.Need-enum-known-n
-enum-known-n c = search needs
-
-refused-requires : tie.Need-refused-requires
-refused-requires c κs = search needs
+answer-requires : tie.Need-answer-requires
+answer-requires c κs = search needs
 
 returns : tie.Need-returns
 returns c =
-    let a = c .before .before .before .before .before .before .before .before .args in
-    left-as (c .data-type .ok) (c .data-type .ensures)
-    (rw (c .before .put-fields .ensures) (ap (readsAll (a .fields .now) (a .starts .now) (a .ends .now)) (rw (c .before .before .before .before .long .given .1) at (c .before .before .before .before .before .before .read .ensures))))
+    let q = c .before .before in
+    let k = q .before .before .before .before .before .before in
+    let a = k .before .before .before .args in
+    let r = readFrame (a .frame .now) in
+    let seen = k .look .ensures in
+    let t = rw (seen .0) at (sym (q .before .before .before .before .before .is-status .ensures) ∙ q .before .before .before .before .if1 .taken) in
+    let at = rw (seen .0, seen .2) at (q .before .before .first-of .ensures .0) in
+    let l = listed (a .frame .now) (a .fields .now) _ refl t in
+    left-as (c .answer .ok) (c .answer .ensures)
+    (rw (c .before .put-ranges .ensures .0, c .before .put-ranges .ensures .1, at, l .there, seen .0, seen .1, seen .2)
+    (ap (λ (z : ℤ). leaves z (fieldsOf (a .fields .now) r, sets (a .starts .now) 0 (startsOf (rangesIn r)), sets (a .ends .now) 0 (endsOf (rangesIn r)))) (told r)))
+
+answer-requires-2 : tie.Need-answer-requires-2
+answer-requires-2 c κs = search needs
 
 returns-2 : tie.Need-returns-2
 returns-2 c =
-    let k = c .before .before .before .before .before in
-    let a = k .before .before .before .before .before .before .before .before .args in
-    left-as (c .status-type .ok) (c .status-type .ensures)
-    (rw (c .before .put-ranges .ensures .0, c .before .put-ranges .ensures .1, c .before .before .before .before .first-range .ensures, k .put-fields2 .ensures, k .before .flag .ensures)
-    (status-all (a .frame .now) (a .fields .now) (k .before .before .before .before .head .given .0 .0) (a .starts .now) (a .ends .now)
-    ∙ ap (readsAll (a .fields .now) (a .starts .now) (a .ends .now)) (is-read k)))
-
-returns-3 : tie.Need-returns-3
-returns-3 c =
-    let a = c .before .before .before .before .before .before .args in
-    left-as (c .refused .ok) (c .refused .ensures)
-    (ap (readsAll (a .fields .now) (a .starts .now) (a .ends .now)) (rw (c .before .before .n .given .1) at (c .before .before .before .before .read .ensures)))
+    let k = c .before .before .before in
+    let a = k .before .before .before .args in
+    let r = readFrame (a .frame .now) in
+    let seen = k .look .ensures in
+    let t = rw (seen .0) at (sym (c .before .before .is-status .ensures) ∙ c .before .if1 .left) in
+    left-as (c .answer2 .ok) (c .answer2 .ensures)
+    (rw (seen .0, seen .1, seen .2, unlisted r t) (ap (λ (z : ℤ). leaves z (fieldsOf (a .fields .now) r, a .starts .now, a .ends .now)) (told r)))
 
 pub x2u-read-all-spec : {M : Type 1} → statement M
 x2u-read-all-spec =
     tie.close
     (tie.spec
-    read-requires
-    enum-known-long
-    put-fields-requires
-    data-type-requires
-    enum-known-head
-    flag-requires
-    put-fields-requires-2
-    first-range-requires
+    look-requires
+    is-status-requires
+    element-copy-out-first-of
+    first-of-requires
     put-ranges-requires
-    status-type-requires
-    enum-known-n
-    refused-requires
+    answer-requires
     returns
-    returns-2
-    returns-3)
+    answer-requires-2
+    returns-2)

@@ -1,0 +1,15 @@
+-- `data_kind`: by the form. Assumes nothing.
+use mathlib.Core.Path.{ap, sym}
+use mathlib.Core.Bool.{Bool}
+use Rattle.layout.specs.Frames.{dataType}
+use Rattle.x2u.proofs.data_kind.Statement.{statement}
+use Rattle.x2u.proofs.data_kind.Tie as tie
+
+returns : tie.Need-returns
+returns c = ap (λ (b : Bool). dataType b) (sym (c .if1 .taken))
+
+returns-2 : tie.Need-returns-2
+returns-2 c = ap (λ (b : Bool). dataType b) (sym (c .if1 .left))
+
+pub data-kind-spec : {M : Type 1} → statement M
+data-kind-spec = tie.close (tie.spec returns returns-2)
