@@ -4,7 +4,9 @@ ghost use mathlib.Core.Path.{_≡_};
 ghost use Prim.Native.Nat.{_+_, _≤_, _<_, min};
 ghost use lib.Dec.{leb};
 ghost use lib.ListN.{length, take};
-ghost use Rattle.replaying.specs.Playing.{takesLedger};
+ghost use Rattle.replaying.specs.Playing.{takesLedger, endsIn, openBoth};
+ghost use Rattle.bearer.specs.Keeper.{openKeeper};
+ghost use Rattle.bearer.specs.Ledger.{openLedger};
 use calling::Call;
 use keeper::Confirmed;
 use keeper::Counted;
@@ -496,6 +498,8 @@ fn play_open(
 ) -> Played
     requires { ⌜ at ≤ length (now out) ⌝ }
     ensures { λ r. ⌜ r .at ≤ length (now (out .entry)) ⌝ }
+    ensures { λ r. ⌜ endsIn (r .opened) (r .ledger) (now (numbers .exit)) (now (pdcps .exit)) (now (marks .exit)) (now (starts .exit)) (now (ends .exit)) (now (words .exit))
+        ≡ openBoth (endsIn opened l (now (numbers .entry)) (now (pdcps .entry)) (now (marks .entry)) (now (starts .entry)) (now (ends .entry)) (now (words .entry))) (openKeeper bits first pdcp) (openLedger bits first pdcp) ⌝ }
 {
     match keeper::open(numbers, pdcps, marks, starts, ends, words, bits, first, pdcp) {
         keeper::Opened::Refused(n) => Played {
