@@ -20,8 +20,15 @@ enum Number {
 
 // What a line says: a call, or nothing that can be read. The octets of the frame to accept stand in a buffer beside it.
 pub enum Call {
-    Open { length: u32, first: u32, pdcp: u32 },
-    Arrive { number: u32, pdcp: u32 },
+    Open {
+        length: u32,
+        first: u32,
+        pdcp: u32,
+    },
+    Arrive {
+        number: u32,
+        pdcp: u32,
+    },
     Expire,
     Confirm(u32),
     Status {

@@ -123,13 +123,34 @@ fn play_block(
         }
         if !replaying::takes_ledger(call, s.opened) {
             s.at = replaying::play_keeper(
-                call, numbers, pdcps, marks, starts, ends, words, s.opened, &mut buffer, out, next.at,
+                call,
+                numbers,
+                pdcps,
+                marks,
+                starts,
+                ends,
+                words,
+                s.opened,
+                &mut buffer,
+                out,
+                next.at,
             );
             continue;
         }
         let l = s.ledger;
         let p = replaying::play_master(
-            call, &frame, numbers, pdcps, marks, starts, ends, words, s.opened, l, out, next.at,
+            call,
+            &frame,
+            numbers,
+            pdcps,
+            marks,
+            starts,
+            ends,
+            words,
+            s.opened,
+            l,
+            out,
+            next.at,
         );
         let after = p.ledger;
         s.at = p.at;
@@ -162,7 +183,18 @@ fn play_some(
         s.more = false;
         return s;
     }
-    play_block(&block[..n], line, numbers, pdcps, marks, starts, ends, words, out, state)
+    play_block(
+        &block[..n],
+        line,
+        numbers,
+        pdcps,
+        marks,
+        starts,
+        ends,
+        words,
+        out,
+        state,
+    )
 }
 
 // Writes the front of the output out.
@@ -188,7 +220,18 @@ fn play_last(
         write_front(out, state.at);
         return;
     }
-    let s = play_block(b"\n", line, numbers, pdcps, marks, starts, ends, words, out, state);
+    let s = play_block(
+        b"\n",
+        line,
+        numbers,
+        pdcps,
+        marks,
+        starts,
+        ends,
+        words,
+        out,
+        state,
+    );
     write_front(out, s.at);
 }
 
@@ -238,12 +281,29 @@ fn play_all(block: &mut [u8], line: &mut [u8; 2044], out: &mut [u8])
     let mut reads = u64::MAX;
     while 0 < reads {
         state = play_some(
-            block, line, &mut numbers, &mut pdcps, &mut marks, &mut starts, &mut ends, &mut words, out, state,
+            block,
+            line,
+            &mut numbers,
+            &mut pdcps,
+            &mut marks,
+            &mut starts,
+            &mut ends,
+            &mut words,
+            out,
+            state,
         );
         reads = reads_left(reads, state.more);
     }
     play_last(
-        line, &mut numbers, &mut pdcps, &mut marks, &mut starts, &mut ends, &mut words, out, state,
+        line,
+        &mut numbers,
+        &mut pdcps,
+        &mut marks,
+        &mut starts,
+        &mut ends,
+        &mut words,
+        out,
+        state,
     );
 }
 

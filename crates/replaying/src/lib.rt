@@ -100,8 +100,7 @@ fn put_refused(n: u32, out: &mut [u8], at: usize) -> usize
 }
 
 // Yes or no as a number.
-fn flag(yes: bool) -> u32
-{
+fn flag(yes: bool) -> u32 {
     if yes { 1 } else { 0 }
 }
 
@@ -423,15 +422,35 @@ fn play_secondary(
             let answer = keeper::arrive(numbers, pdcps, marks, starts, ends, words, number, pdcp);
             put_counted(answer, out, at)
         }
-        Call::Expire => put_counted(keeper::expire(numbers, pdcps, marks, starts, ends, words), out, at),
-        Call::Confirm(n) => put_confirmed(keeper::confirm(numbers, pdcps, marks, starts, ends, words, n), out, at),
+        Call::Expire => put_counted(
+            keeper::expire(numbers, pdcps, marks, starts, ends, words),
+            out,
+            at,
+        ),
+        Call::Confirm(n) => put_confirmed(
+            keeper::confirm(numbers, pdcps, marks, starts, ends, words, n),
+            out,
+            at,
+        ),
         Call::Status {
             desired,
             minimum,
             last,
             room,
         } => report(
-            numbers, pdcps, marks, starts, ends, words, desired, minimum, last, room, buffer, out, at,
+            numbers,
+            pdcps,
+            marks,
+            starts,
+            ends,
+            words,
+            desired,
+            minimum,
+            last,
+            room,
+            buffer,
+            out,
+            at,
         ),
         Call::Keeper => put_keeper(numbers, pdcps, marks, starts, ends, words, out, at),
         _ => at,
@@ -491,7 +510,7 @@ fn play_open(
     starts: &mut [u32; 256],
     ends: &mut [u32; 256],
     words: &mut [u32; 6],
-    opened: bool,
+    former: bool,
     l: Ledger,
     out: &mut [u8],
     at: usize,
@@ -499,12 +518,22 @@ fn play_open(
     requires { ⌜ at ≤ length (now out) ⌝ }
     ensures { λ r. ⌜ r .at ≤ length (now (out .entry)) ⌝ }
     ensures { λ r. ⌜ endsIn (r .opened) (r .ledger) (now (numbers .exit)) (now (pdcps .exit)) (now (marks .exit)) (now (starts .exit)) (now (ends .exit)) (now (words .exit))
-        ≡ openBoth (endsIn opened l (now (numbers .entry)) (now (pdcps .entry)) (now (marks .entry)) (now (starts .entry)) (now (ends .entry)) (now (words .entry))) (openKeeper bits first pdcp) (openLedger bits first pdcp) ⌝ }
+        ≡ openBoth (endsIn former l (now (numbers .entry)) (now (pdcps .entry)) (now (marks .entry)) (now (starts .entry)) (now (ends .entry)) (now (words .entry))) (openKeeper bits first pdcp) (openLedger bits first pdcp) ⌝ }
 {
-    match keeper::open(numbers, pdcps, marks, starts, ends, words, bits, first, pdcp) {
+    match keeper::open(
+        numbers,
+        pdcps,
+        marks,
+        starts,
+        ends,
+        words,
+        bits,
+        first,
+        pdcp,
+    ) {
         keeper::Opened::Refused(n) => Played {
             at: put_refused(n, out, at),
-            opened: opened,
+            opened: former,
             ledger: l,
         },
         keeper::Opened::Done => {
@@ -573,8 +602,24 @@ fn play_ledger(
     ensures { λ r. ⌜ r .at ≤ length (now (out .entry)) ⌝ }
 {
     match call {
-        Call::Open { length, first, pdcp } => play_open(
-            length, first, pdcp, numbers, pdcps, marks, starts, ends, words, opened, l, out, at,
+        Call::Open {
+            length,
+            first,
+            pdcp,
+        } => play_open(
+            length,
+            first,
+            pdcp,
+            numbers,
+            pdcps,
+            marks,
+            starts,
+            ends,
+            words,
+            opened,
+            l,
+            out,
+            at,
         ),
         Call::Send(pdcp) => play_send(l, pdcp, out, at),
         Call::Accept(n) => play_accept(l, calling::first(frame, n), out, at),
@@ -612,7 +657,18 @@ pub fn play_master(
         };
     }
     let mut p = play_ledger(
-        call, frame, numbers, pdcps, marks, starts, ends, words, opened, l, out, at,
+        call,
+        frame,
+        numbers,
+        pdcps,
+        marks,
+        starts,
+        ends,
+        words,
+        opened,
+        l,
+        out,
+        at,
     );
     p.at = put_octet(LINE_FEED, out, p.at);
     p
@@ -641,7 +697,18 @@ fn play_other(
     if !opened {
         return put(b"unopened", out, at);
     }
-    play_secondary(call, numbers, pdcps, marks, starts, ends, words, buffer, out, at)
+    play_secondary(
+        call,
+        numbers,
+        pdcps,
+        marks,
+        starts,
+        ends,
+        words,
+        buffer,
+        out,
+        at,
+    )
 }
 
 // A call that doesn't take the ledger, and the line of its answer. Without room for any answer nothing changes.
@@ -664,7 +731,17 @@ pub fn play_keeper(
         return at;
     }
     let at = play_other(
-        call, numbers, pdcps, marks, starts, ends, words, opened, buffer, out, at,
+        call,
+        numbers,
+        pdcps,
+        marks,
+        starts,
+        ends,
+        words,
+        opened,
+        buffer,
+        out,
+        at,
     );
     put_octet(LINE_FEED, out, at)
 }

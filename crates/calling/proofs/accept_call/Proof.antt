@@ -43,12 +43,12 @@ enum-told : tie.Need-enum-told
 enum-told c = search needs
 
 returns-2 : tie.Need-returns-2
-returns-2 c = 
+returns-2 c =
     let d = c .before .before .before in
     (ap framed (sym (c .before .n .given .1)) ∙ reads d .0, reads d .1)
 
 returns-3 : tie.Need-returns-3
-returns-3 c = 
+returns-3 c =
     let d = c .before .before in
     (ap framed (sym (c .enum-told .given .1)) ∙ reads d .0, reads d .1)
 

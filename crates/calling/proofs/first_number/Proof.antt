@@ -18,7 +18,7 @@ number-in-requires : tie.Need-number-in-requires
 number-in-requires c κs = search needs
 
 returns : tie.Need-returns
-returns c = 
+returns c =
     let l = c .before .before .before .before .args .octets .now in
     c .number-in .ensures ∙ ap numberOf (c .before .first .ensures ∙ ap (λ (k : ℕ). take k l) (c .before .before .field-end .ensures) ∙ first-front l)
 

@@ -79,7 +79,7 @@ loop-again c =
       omega arith,
       omega (arith, c .if4 .left),
       digits-on f (l .i) test (p .0) ∙ l .inv .2,
-      ap (λ (k : ℕ). valueOf (l .value * 10 + k) (drop (l .i + 1) f)) (p .1) ∙ sym (value-on f (l .i) test (l .value)) ∙ l .inv .3
+      ap (λ (k : ℕ). valueOf (l .value * 10 + k) (drop (l .i + 1) f)) (p .1) ∙ sym (value-on f (l .i) test (l .value)) ∙ l .inv .3,
     )
 
 cast-t12 : tie.Need-cast-t12 Inv-loop μ-loop

@@ -80,7 +80,7 @@ same-length-2 : tie.Need-same-length-2 Inv-loop μ-loop
 same-length-2 c = c .before .before .before .before .before .before .before .loop .inv .2 ∙ sym (c .before .before .before .before .before .before .before .before .before .before .pre)
 
 returns-2 : tie.Need-returns-2 Inv-loop μ-loop
-returns-2 c = 
+returns-2 c =
     let d = c .before .before .before .before in
     let l = d .before .before .before .loop in
     let n = c .before .before .n .given .0 .0 in
@@ -133,7 +133,7 @@ same-length-3 : tie.Need-same-length-3 Inv-loop μ-loop
 same-length-3 c = c .before .loop .inv .2 ∙ sym (c .before .before .before .before .pre)
 
 returns-3 : tie.Need-returns-3 Inv-loop μ-loop
-returns-3 c = 
+returns-3 c =
     let l = c .before .loop in
     let fields = c .before .before .before .before .args .fields .now in
     all-held (l .values) (l .count) (l .inv .1) (omega (arith, l .inv .2, l .inv .1)) ∙ ap few (rw (drop-of-length-le fields (c .loop-test .left)) at (l .inv .3))

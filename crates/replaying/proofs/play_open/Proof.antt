@@ -1,7 +1,4 @@
-use Prim.Native.Nat.{ℕ, _+_, _-_, _*_, _^_, _≤_, _<_}
-use native.Mathlib.Omega.{arith}
-use mathlib.Core.Path.{_≡_, refl, sym, _∙_, ap}
-use lib.ListN.{length, getD, set, take, drop}
+-- `play_open`: the secondary answers for both ends, which refuse alike. Assumes nothing.
 use Rattle.bearer.specs.Keeper.{openKeeper}
 use Rattle.bearer.specs.Ledger.{openLedger}
 use Rattle.replaying.specs.Playing.{endsIn}
@@ -37,7 +34,7 @@ same-length c = search needs
 returns : tie.Need-returns
 returns c =
     let a = c .before .before .before .before .before .before .before .before .before .before .before .before .before .before .before .args in
-    let e = endsIn (a .opened) (a .l) (a .numbers .now) (a .pdcps .now) (a .marks .now) (a .starts .now) (a .ends .now) (a .words .now) in
+    let e = endsIn (a .former) (a .l) (a .numbers .now) (a .pdcps .now) (a .marks .now) (a .starts .now) (a .ends .now) (a .words .now) in
     let n = c .before .before .before .before .before .n .given in
     let told = rw (n .1) at (c .before .before .before .before .before .before .before .«open» .ensures .0) in
     (search needs, keeper-left e _ (n .0 .0) (openKeeper (a .bits) (a .first) (a .pdcp)) (openLedger (a .bits) (a .first) (a .pdcp)) told)
@@ -48,7 +45,7 @@ same-length-2 c = search needs
 returns-2 : tie.Need-returns-2
 returns-2 c =
     let a = c .before .before .before .before .before .before .before .before .before .before .before .before .before .before .before .before .before .args in
-    let e = endsIn (a .opened) (a .l) (a .numbers .now) (a .pdcps .now) (a .marks .now) (a .starts .now) (a .ends .now) (a .words .now) in
+    let e = endsIn (a .former) (a .l) (a .numbers .now) (a .pdcps .now) (a .marks .now) (a .starts .now) (a .ends .now) (a .words .now) in
     let told = rw (c .before .before .before .before .before .before .before .enum-told .given .1) at (c .before .before .before .before .before .before .before .before .before .«open» .ensures .0) in
     let kept = keeper-opened (e .keeper) _ (openKeeper (a .bits) (a .first) (a .pdcp)) told in
     (search needs, ledger-opened (a .bits) (a .first) (a .pdcp) _ e (c .before .before .before .before .before .before .open2 .result .answer) _ kept (c .before .before .before .before .before .before .open2 .ensures))
