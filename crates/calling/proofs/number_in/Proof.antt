@@ -20,10 +20,10 @@ abbrev μ-loop : tie.MeasureT-loop
 μ-loop field value₀ i₀ value i = length field - i
 
 returns : tie.Need-returns Inv-loop μ-loop
-returns c = sym (unread-empty (c .before .before .args .field .now) (c .if1 .taken))
+returns c = sym (unread-empty (c .before .before .args .field .now) (omega (arith, c .if1 .taken)))
 
 returns-2 : tie.Need-returns-2 Inv-loop μ-loop
-returns-2 c = sym (unread-long (c .before .before .before .args .field .now) (c .if2 .taken))
+returns-2 c = sym (unread-long (c .before .before .before .args .field .now) (omega (arith, c .if2 .taken)))
 
 loop-holds : tie.Need-loop-holds Inv-loop μ-loop
 loop-holds c = search needs
@@ -92,7 +92,7 @@ returns-5 c =
     let none = drop-of-length-le f (c .loop-test .left) in
     let digits = sym (rw none at (l .inv .2)) in
     let value = rw none at (l .inv .3) in
-    ap Value value ∙ sym (reads f (c .before .before .before .if1 .left) (c .before .before .if2 .left) digits (omega (arith, value, l .inv .1)))
+    ap Value value ∙ sym (reads f (c .before .before .before .if1 .left) (omega (arith, c .before .before .if2 .left)) digits (omega (arith, value, l .inv .1)))
 
 pub number-in-spec : {M : Type 1} → statement M
 number-in-spec =
