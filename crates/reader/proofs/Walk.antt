@@ -126,25 +126,10 @@ list-held long true n m w h = h
 list-held true false n m w h = omega arith
 list-held false false n m w h = omega arith
 
-held-read : (s : List ℕ) (h : Head) (f : Framed) → meant f ≡ readingOf s (frame.Status h) → GoodLength (length s) → Read s f → Held s (cursorOf h)
-held-read s h f e g (as-data long t) = apart (cc)
-held-read s h f e g (as-status long t fits) =
-    let w = width long in
-    let same = same-status _ _ e in
-    let form : h .long ≡ long = sym (ap (λ (x : Status). x .long) same) in
-    let count : h .count ≡ countIn s w = sym (length-rangesAt s _ _ (h .count)) ∙ ap (λ (x : Status). length (x .ranges)) (sym same) ∙ length-rangesAt s _ _ (countIn s w) in
-    rw (form, count) (list-held long (listedIn s) (getD s (countAt w) 0) (length s) (g .phase) (fits .list-in))
-
 -- 5 refuses any count above 162
 few-at : (listed : Bool) (n : ℕ) → countRefused listed (if listed then n else 0) ≡ false → (if listed then n else 0) ≤ mostRanges
 few-at true n e = ltb-false mostRanges n (or-false (eqb n 0) (ltb mostRanges n) e .1)
 few-at false n e = omega arith
-
--- the frame holds the ranges from the first cursor on
-pub held-first : (s : List ℕ) (h : Head) → readingOf s (frame.Status h) ≡ readFrame s → Held s (cursorOf h)
-held-first s h e =
-    let r = frame-read s (status-frame _) (sym e) in
-    held-read s h (status-frame _) refl (r .0) (r .1)
 
 -- the cursor before a status's ranges
 abbrev pub before : Status → Cursor
@@ -171,6 +156,10 @@ pub stands : (s : List ℕ) (st : Status) → readFrame s ≡ status-of st → S
 stands s st e =
     let r = frame-read s (status-frame st) e in
     stands-read s st (status-frame st) refl (r .0) (r .1)
+
+-- the frame holds the ranges from the first cursor on
+pub held-first : (s : List ℕ) (h : Head) → readingOf s (frame.Status h) ≡ readFrame s → Held s (cursorOf h)
+held-first s h e = rw (length-rangesAt s (width (h .long)) (listAt (width (h .long))) (h .count)) at (stands s _ (sym e) .held)
 
 -- the walk over a frame that is read as a status answers the status's ranges
 pub whole-walk : (s : List ℕ) (h : Head) (st : Status) → readingOf s (frame.Status h) ≡ readFrame s → readFrame s ≡ status-of st

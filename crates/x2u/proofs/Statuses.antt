@@ -15,7 +15,8 @@ use Rattle.reader.specs.declared.Frame.the-variants as read
 use Rattle.reader.specs.declared.Cursor.{Cursor}
 use Rattle.reader.specs.Answers.{readingOf, ahead, Held}
 use Rattle.reader.proofs.Walk.{before, stands}
-use Rattle.x2u.specs.Boundary.{minus, leaves, kindOf, refusalOf, isStatus, answerTo, typeOf, fieldsOf, rangesIn, firstOf, begins, wordsOf}
+use Rattle.x2u.specs.Boundary.{minus, leaves, typeOf, fieldsOf, rangesIn, begins, wordsOf}
+use Rattle.x2u.specs.Looks.{kindOf, refusalOf, isStatus, answerTo, firstOf}
 
 -- where two Bools would be equal, `cc` shows that 0 is 1
 apart : {A : Type 0} → _≡_ {A = ℕ} 0 1 → A

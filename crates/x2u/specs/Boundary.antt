@@ -1,14 +1,13 @@
 -- What the C boundary answers and leaves, by the definitions that the contracts of the crates below it cite.
 -- An answer is one integer: from 0 on what document 01 answers, below 0 a refusal.
 -- Assumes nothing.
-use mathlib.Core.Bool.{Bool, true, false}
 use mathlib.Core.List.{List, [], _∷_, map}
 use Prim.Native.Nat.{ℕ}
-use lib.Dec.{ltb, eqb}
+use lib.Dec.{ltb}
 use lib.IntN.{ℤ, pos, negℤ}
 use lib.ListN.{length, getD}
 use lib.Seq.{sets}
-use Rattle.layout.specs.Basics.{if_then_else_, _or_, bit, Outcome, done, refused}
+use Rattle.layout.specs.Basics.{if_then_else_, bit, Outcome, done, refused}
 use Rattle.layout.specs.Frames as frames
 use Rattle.layout.specs.Frames.{Reading, data-of, status-of, refuse, Written, dataType, statusType, width, listAt, mostOctets}
 use Rattle.bearer.specs.Bearer.{After}
@@ -62,25 +61,7 @@ reports a = leaves (answerOf itself (a .answer)) (a .state, a .buffer)
 
 -- ---- the reader
 
--- what is read: its type from 0 to 3, or 4 for a refusal, and the refusal's number
-abbrev pub kindOf : Reading → ℕ
-kindOf (data-of long n) = dataType long
-kindOf (status-of s) = statusType (s .long)
-kindOf (refuse n) = 4
-
-abbrev pub refusalOf : Reading → ℕ
-refusalOf (data-of long n) = 0
-refusalOf (status-of s) = 0
-refusalOf (refuse n) = n
-
--- a status is of type 1 or 2
-abbrev pub isStatus : ℕ → Bool
-isStatus kind = eqb kind 1 or eqb kind 2
-
--- the answer to it: the type, or minus the refusal's number
-abbrev pub answerTo : ℕ → ℕ → ℤ
-answerTo kind refusal = if ltb kind 4 then pos kind else minus refusal
-
+-- the answer to what is read: its type, or minus the refusal's number
 abbrev pub typeOf : Reading → ℤ
 typeOf (data-of long n) = pos (dataType long)
 typeOf (status-of s) = pos (statusType (s .long))
@@ -113,10 +94,6 @@ reads old r = leaves (typeOf r) (fieldsOf old r)
 -- the same with the ranges at the front of two arrays, in place of what was there
 abbrev pub readsAll : List ℕ → List ℕ → List ℕ → Reading → Left (List ℕ × List ℕ × List ℕ)
 readsAll old starts ends r = leaves (typeOf r) (fieldsOf old r, sets starts 0 (startsOf (rangesIn r)), sets ends 0 (endsOf (rangesIn r)))
-
--- the cursor before the first of so many ranges of a status of this type
-abbrev pub firstOf : ℕ → ℕ → Cursor
-firstOf kind count = if eqb kind 2 then record { long = true; place = listAt (width true); left = count } else record { long = false; place = listAt (width false); left = count }
 
 -- a cursor is three words: its form, its place, and how many ranges are left
 abbrev pub cursorIn : List ℕ → Cursor

@@ -12,7 +12,8 @@ ghost use Rattle.layout.specs.Frames.{dataType, statusType, rangesOf, readFrame
 ghost use Rattle.bearer.specs.Keeper.{openKeeper, arrive, expire, confirm, status};
 ghost use Rattle.reader.specs.Answers.{ahead, Held};
 ghost use Rattle.keeper.specs.View.{isSet, keeperIn, opensInto, arrays};
-ghost use Rattle.x2u.specs.Boundary.{minus, leaves, writes, counts, settles, reports, kindOf, refusalOf, fieldsOf, answerTo, isStatus, firstOf, reads, startsOf, endsOf, readsAll, cursorIn, begins, stepIn, steps};
+ghost use Rattle.x2u.specs.Boundary.{minus, leaves, writes, counts, settles, reports, fieldsOf, reads, startsOf, endsOf, readsAll, cursorIn, begins, stepIn, steps};
+ghost use Rattle.x2u.specs.Looks.{kindOf, refusalOf, answerTo, isStatus, firstOf};
 
 const MOST_OCTETS: usize = 1018; // the greatest length of a frame
 

@@ -1,6 +1,7 @@
 -- `look`: what was read, as a type, a refusal and fields. Assumes nothing.
 use mathlib.Core.Path.{_∙_, ap}
-use Rattle.x2u.specs.Boundary.{kindOf, refusalOf, fieldsOf}
+use Rattle.x2u.specs.Boundary.{fieldsOf}
+use Rattle.x2u.specs.Looks.{kindOf, refusalOf}
 use Rattle.x2u.proofs.Statuses.{status-fields}
 use borrow.Author.Needs.{needs}
 use Rattle.x2u.proofs.look.Statement.{statement}
