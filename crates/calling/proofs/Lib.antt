@@ -3,3 +3,4 @@ pub mod Numbers
 pub mod Words
 pub mod Several
 pub mod Accept
+pub mod Bound

@@ -16,7 +16,7 @@ same-self [] = refl
 same-self (c ∷ cs) = rw (eq-eqb c c refl) (same-self cs)
 
 -- and the same texts are equal
-same-equal : (k l : List ℕ) → same k l ≡ true → k ≡ l
+pub same-equal : (k l : List ℕ) → same k l ≡ true → k ≡ l
 same-equal [] [] e = refl
 same-equal [] (d ∷ ds) e = cc
 same-equal (c ∷ cs) [] e = cc

@@ -11,16 +11,20 @@ use Rattle.listing.specs.Listing.{ascii, lineOf}
 use Rattle.listing.specs.Feeding.{kept}
 use Rattle.listing.proofs.Cases.{below-or}
 
+-- where all lists longer than m have the same answer, a list is answered by the m + 1 elements at its front
+pub front-answers : {A : Type 0} (f : List ℕ → A) (x : A) (m : ℕ) → ((l : List ℕ) → m < length l → f l ≡ x) → (l : List ℕ) → f (take (suc m) l) ≡ f l
+front-answers f x m long l =
+    below-or (suc m) (length l)
+    (λ h. long (take (suc m) l) (omega (arith, length-take (suc m) l)) ∙ sym (long l (omega arith)))
+    (λ h. ap f (take-all (suc m) l h))
+
 -- too long a line can't be read
 too-long : (l : List ℕ) → 2036 < length l → lineOf l ≡ ascii "unreadable\n"
 unfolding lineOf
 too-long l h = rw (lt-ltb 2036 (length l) h)
 
 pub line-kept : (l : List ℕ) → lineOf (kept l) ≡ lineOf l
-line-kept l =
-    below-or 2037 (length l)
-    (λ h. too-long (kept l) (omega (arith, length-take 2037 l)) ∙ sym (too-long l (omega arith)))
-    (λ h. ap lineOf (take-all 2037 l h))
+line-kept = front-answers lineOf (ascii "unreadable\n") 2036 too-long
 
 -- what is kept of it and more is what is kept of both
 pub take-more : (m : ℕ) (a b : List ℕ) → take m (take m a ++ b) ≡ take m (a ++ b)
