@@ -1,5 +1,4 @@
 -- `bare_call`: by the words, one after another. Assumes nothing.
-use mathlib.Core.Path.{sym, _∙_}
 use borrow.Author.Needs.{needs}
 use Rattle.calling.proofs.bare_call.Statement.{statement}
 use Rattle.calling.proofs.bare_call.Tie as tie
@@ -11,7 +10,7 @@ same-requires : tie.Need-same-requires
 same-requires c κs = search needs
 
 returns : tie.Need-returns
-returns c = rw (sym (c .before .same .ensures) ∙ c .if1 .taken)
+returns c = rw (← c .before .same .ensures, c .if1 .taken)
 
 slice-aggregate-same-2 : tie.Need-slice-aggregate-same-2
 slice-aggregate-same-2 c = search needs
@@ -20,7 +19,9 @@ same-requires-2 : tie.Need-same-requires-2
 same-requires-2 c κs = search needs
 
 returns-2 : tie.Need-returns-2
-returns-2 c = rw (sym (c .before .before .before .before .same .ensures) ∙ c .before .before .before .if1 .left, sym (c .before .same2 .ensures) ∙ c .if2 .taken)
+returns-2 c =
+    let first = c .before .before .before in
+    rw (← first .before .same .ensures, first .if1 .left, ← c .before .same2 .ensures, c .if2 .taken)
 
 slice-aggregate-same-3 : tie.Need-slice-aggregate-same-3
 slice-aggregate-same-3 c = search needs
@@ -29,7 +30,10 @@ same-requires-3 : tie.Need-same-requires-3
 same-requires-3 c κs = search needs
 
 returns-3 : tie.Need-returns-3
-returns-3 c = rw (sym (c .before .before .before .before .before .before .before .same .ensures) ∙ c .before .before .before .before .before .before .if1 .left, sym (c .before .before .before .before .same2 .ensures) ∙ c .before .before .before .if2 .left, sym (c .before .same3 .ensures) ∙ c .if3 .taken)
+returns-3 c =
+    let second = c .before .before .before in
+    let first = second .before .before .before in
+    rw (← first .before .same .ensures, first .if1 .left, ← second .before .same2 .ensures, second .if2 .left, ← c .before .same3 .ensures, c .if3 .taken)
 
 slice-aggregate-same-4 : tie.Need-slice-aggregate-same-4
 slice-aggregate-same-4 c = search needs
@@ -38,10 +42,18 @@ same-requires-4 : tie.Need-same-requires-4
 same-requires-4 c κs = search needs
 
 returns-4 : tie.Need-returns-4
-returns-4 c = rw (sym (c .before .before .before .before .before .before .before .before .before .before .same .ensures) ∙ c .before .before .before .before .before .before .before .before .before .if1 .left, sym (c .before .before .before .before .before .before .before .same2 .ensures) ∙ c .before .before .before .before .before .before .if2 .left, sym (c .before .before .before .before .same3 .ensures) ∙ c .before .before .before .if3 .left, sym (c .before .same4 .ensures) ∙ c .if4 .taken)
+returns-4 c =
+    let third = c .before .before .before in
+    let second = third .before .before .before in
+    let first = second .before .before .before in
+    rw (← first .before .same .ensures, first .if1 .left, ← second .before .same2 .ensures, second .if2 .left, ← third .before .same3 .ensures, third .if3 .left, ← c .before .same4 .ensures, c .if4 .taken)
 
 returns-5 : tie.Need-returns-5
-returns-5 c = rw (sym (c .before .before .before .before .before .before .before .before .before .before .same .ensures) ∙ c .before .before .before .before .before .before .before .before .before .if1 .left, sym (c .before .before .before .before .before .before .before .same2 .ensures) ∙ c .before .before .before .before .before .before .if2 .left, sym (c .before .before .before .before .same3 .ensures) ∙ c .before .before .before .if3 .left, sym (c .before .same4 .ensures) ∙ c .if4 .left)
+returns-5 c =
+    let third = c .before .before .before in
+    let second = third .before .before .before in
+    let first = second .before .before .before in
+    rw (← first .before .same .ensures, first .if1 .left, ← second .before .same2 .ensures, second .if2 .left, ← third .before .same3 .ensures, third .if3 .left, ← c .before .same4 .ensures, c .if4 .left)
 
 pub bare-call-spec : {M : Type 1} → statement M
 bare-call-spec =

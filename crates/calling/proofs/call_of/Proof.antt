@@ -16,7 +16,7 @@ accept-call-requires : tie.Need-accept-call-requires
 accept-call-requires c κs = search needs
 
 returns : tie.Need-returns
-returns c = rw (sym (c .before .before .before .same .ensures) ∙ c .before .before .if1 .taken) (c .accept-call .ensures)
+returns c = rw (← c .before .before .before .same .ensures, c .before .before .if1 .taken) (c .accept-call .ensures)
 
 slice-aggregate-numbers-in : tie.Need-slice-aggregate-numbers-in
 slice-aggregate-numbers-in c = search needs
@@ -35,7 +35,7 @@ returns-2 c =
     let a = c .before .before .before .before .before .before .before .before .before .before .args in
     let w = a .word .now in
     let numbers = ap (callWith w) (c .before .before .before .numbers-in .ensures) ∙ few-enough w (numbersOf (tabbedFields (a .fields .now))) in
-    rw (sym (c .before .before .before .before .before .before .same .ensures) ∙ c .before .before .before .before .before .if1 .left) (c .numbered-call .ensures ∙ numbers, refl)
+    rw (← c .before .before .before .before .before .before .same .ensures, c .before .before .before .before .before .if1 .left) (c .numbered-call .ensures ∙ numbers, refl)
 
 pub call-of-spec : {M : Type 1} → statement M
 call-of-spec =

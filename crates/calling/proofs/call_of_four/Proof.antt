@@ -1,5 +1,4 @@
 -- `call_of_four`: by its one word. Assumes nothing.
-use mathlib.Core.Path.{sym, _∙_}
 use borrow.Author.Needs.{needs}
 use Rattle.calling.proofs.call_of_four.Statement.{statement}
 use Rattle.calling.proofs.call_of_four.Tie as tie
@@ -14,10 +13,10 @@ status-of-requires : tie.Need-status-of-requires
 status-of-requires c κs = search needs
 
 returns : tie.Need-returns
-returns c = rw (sym (c .before .before .same .ensures) ∙ c .before .if1 .taken) (c .status-of .ensures)
+returns c = rw (← c .before .before .same .ensures, c .before .if1 .taken) (c .status-of .ensures)
 
 returns-2 : tie.Need-returns-2
-returns-2 c = rw (sym (c .before .same .ensures) ∙ c .if1 .left)
+returns-2 c = rw (← c .before .same .ensures, c .if1 .left)
 
 pub call-of-four-spec : {M : Type 1} → statement M
 call-of-four-spec =

@@ -1,5 +1,4 @@
 -- `call_of_one`: by the words, one after another. Assumes nothing.
-use mathlib.Core.Path.{sym, _∙_}
 use borrow.Author.Needs.{needs}
 use Rattle.calling.proofs.call_of_one.Statement.{statement}
 use Rattle.calling.proofs.call_of_one.Tie as tie
@@ -11,7 +10,7 @@ same-requires : tie.Need-same-requires
 same-requires c κs = search needs
 
 returns : tie.Need-returns
-returns c = rw (sym (c .before .same .ensures) ∙ c .if1 .taken)
+returns c = rw (← c .before .same .ensures, c .if1 .taken)
 
 slice-aggregate-same-2 : tie.Need-slice-aggregate-same-2
 slice-aggregate-same-2 c = search needs
@@ -20,10 +19,10 @@ same-requires-2 : tie.Need-same-requires-2
 same-requires-2 c κs = search needs
 
 returns-2 : tie.Need-returns-2
-returns-2 c = rw (sym (c .before .before .before .before .same .ensures) ∙ c .before .before .before .if1 .left, sym (c .before .same2 .ensures) ∙ c .if2 .taken)
+returns-2 c = rw (← c .before .before .before .before .same .ensures, c .before .before .before .if1 .left, ← c .before .same2 .ensures, c .if2 .taken)
 
 returns-3 : tie.Need-returns-3
-returns-3 c = rw (sym (c .before .before .before .before .same .ensures) ∙ c .before .before .before .if1 .left, sym (c .before .same2 .ensures) ∙ c .if2 .left)
+returns-3 c = rw (← c .before .before .before .before .same .ensures, c .before .before .before .if1 .left, ← c .before .same2 .ensures, c .if2 .left)
 
 pub call-of-one-spec : {M : Type 1} → statement M
 call-of-one-spec =

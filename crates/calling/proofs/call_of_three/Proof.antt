@@ -1,5 +1,4 @@
 -- `call_of_three`: by its one word. Assumes nothing.
-use mathlib.Core.Path.{sym, _∙_}
 use borrow.Author.Needs.{needs}
 use Rattle.calling.proofs.call_of_three.Statement.{statement}
 use Rattle.calling.proofs.call_of_three.Tie as tie
@@ -11,10 +10,10 @@ same-requires : tie.Need-same-requires
 same-requires c κs = search needs
 
 returns : tie.Need-returns
-returns c = rw (sym (c .before .same .ensures) ∙ c .if1 .taken)
+returns c = rw (← c .before .same .ensures, c .if1 .taken)
 
 returns-2 : tie.Need-returns-2
-returns-2 c = rw (sym (c .before .same .ensures) ∙ c .if1 .left)
+returns-2 c = rw (← c .before .same .ensures, c .if1 .left)
 
 pub call-of-three-spec : {M : Type 1} → statement M
 call-of-three-spec = tie.close (tie.spec slice-aggregate-same same-requires returns returns-2)
