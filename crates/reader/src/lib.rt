@@ -158,40 +158,38 @@ fn count_in(s: &[u8], long: bool) -> u32
 }
 
 // Whether there is a list whose count no list has.
-fn bad_count(s: &[u8], long: bool) -> bool
-    requires { ⌜ (0 < length (now s)) × (fixedEnd (now s) (width long) ≤ length (now s)) ⌝ }
-    ensures { λ r. ⌜ r ≡ (listedIn (now (s .entry)) and (eqb (countIn (now (s .entry)) (width long)) 0 or ltb mostRanges (countIn (now (s .entry)) (width long)))) ⌝ }
+fn bad_count(listed: bool, count: u32) -> bool
+    ensures { λ r. ⌜ r ≡ (listed and (eqb count 0 or ltb mostRanges count)) ⌝ }
 {
-    if listed_in(s) {
-        let count = count_in(s, long);
+    if listed {
         count == 0 || MOST_RANGES < count
     } else {
         false
     }
 }
 
-// Where the list ends.
-fn list_end(s: &[u8], long: bool) -> usize
-    requires { ⌜ (0 < length (now s)) × (fixedEnd (now s) (width long) ≤ length (now s)) ⌝ }
-    ensures { λ r. ⌜ r ≡ listEnd (now (s .entry)) (width long) ⌝ }
+// Where a list of so many ranges ends that starts at a place.
+fn list_end(place: usize, count: u32, long: bool) -> usize
+    requires { ⌜ (place ≤ 13) × (count < 256) ⌝ }
+    ensures { λ r. ⌜ r ≡ place + count * (2 * width long) ⌝ }
 {
-    let count = count_in(s, long) as usize;
-    fixed_end(s, long) + count * (2 * width_of(long))
+    let count = count as usize;
+    place + count * (2 * width_of(long))
 }
 
-// What a status says before its list, and the count.
-fn head_in(s: &[u8], long: bool) -> Head
-    requires { ⌜ (9 + width long ≤ length (now s)) × (fixedEnd (now s) (width long) ≤ length (now s)) ⌝ }
+// What a status says before its list, by the two fields that were looked at before.
+fn head_in(s: &[u8], long: bool, highest: u32, count: u32) -> Head
+    requires { ⌜ (9 + width long ≤ length (now s)) × (highest ≡ field (now s) 1 (width long)) × (count ≡ countIn (now s) (width long)) ⌝ }
     ensures { λ r. ⌜ readingOf (now (s .entry)) (Frame.Status r) ≡ status-of (statusIn long (now (s .entry))) ⌝ }
 {
     let w = width_of(long);
     Head {
         long: long,
         last: final_in(s),
-        highest: number_at(s, 1, long),
+        highest: highest,
         desired: join4(s, 1 + w),
         minimum: join4(s, 5 + w),
-        count: count_in(s, long),
+        count: count,
     }
 }
 
@@ -224,14 +222,15 @@ fn read_status(s: &[u8], long: bool) -> Frame
     if most < highest {
         return Frame::Refused(refusal::HIGHEST);
     }
-    if bad_count(s, long) {
+    let count = count_in(s, long);
+    if bad_count(listed_in(s), count) {
         return Frame::Refused(refusal::COUNT);
     }
-    let end = list_end(s, long);
+    let end = list_end(fixed, count, long);
     if s.len() < end {
         return Frame::Refused(refusal::LIST);
     }
-    Frame::Status(head_in(s, long))
+    Frame::Status(head_in(s, long, highest, count))
 }
 
 // By the type, octets of a length that a frame has.
@@ -244,8 +243,7 @@ fn read_type(s: &[u8], kind: u8) -> Frame
             long: false,
             number: join2(s, 1),
         },
-        1 => read_status(s, false),
-        2 => read_status(s, true),
+        1..=2 => read_status(s, kind == 2),
         3 => Frame::Data {
             long: true,
             number: join3(s, 1),

@@ -9,9 +9,6 @@ width-of-requires c κs = search needs
 final-in-requires : tie.Need-final-in-requires
 final-in-requires c κs = search needs
 
-number-at-requires : tie.Need-number-at-requires
-number-at-requires c κs = search needs
-
 add-join4 : tie.Need-add-join4
 add-join4 c = search needs
 
@@ -24,14 +21,12 @@ add-join4-2 c = search needs
 join4-requires-2 : tie.Need-join4-requires-2
 join4-requires-2 c κs = search needs
 
-count-in-requires : tie.Need-count-in-requires
-count-in-requires c κs = search needs
-
 returns : tie.Need-returns
 returns c =
-    let d = c .before .before .before in
-    rw (d .before .final-in .ensures, d .number-at .ensures, c .before .before .join4 .ensures, c .before .join42 .ensures)
-    (rw (c .count-in .ensures .0, d .before .before .width-of .ensures .0))
+    let d = c .before .before in
+    let p = d .before .before .before in
+    rw (d .final-in .ensures, p .pre .1, c .before .join4 .ensures, c .join42 .ensures)
+    (rw (p .pre .2, d .before .width-of .ensures .0))
 
 pub head-in-spec : {M : Type 1} → statement M
 head-in-spec =
@@ -39,10 +34,8 @@ head-in-spec =
     (tie.spec
     width-of-requires
     final-in-requires
-    number-at-requires
     add-join4
     join4-requires
     add-join4-2
     join4-requires-2
-    count-in-requires
     returns)

@@ -7,17 +7,8 @@ use Rattle.reader.proofs.list_end.Statement.{statement}
 use Rattle.reader.proofs.list_end.Tie as tie
 
 -- the octets of a list
-product : (c : tie.After-width-of) → c .before .before .count-in .result * (2 * c .width-of .result) ≤ 255 * 6
+product : (c : tie.After-width-of) → c .before .args .count * (2 * c .width-of .result) ≤ 255 * 6
 product c = mul-le-mul {n₂ = 255} {m₂ = 6} (omega arith) (omega arith)
-
-count-in-requires : tie.Need-count-in-requires
-count-in-requires c κs = search needs
-
-cast-count : tie.Need-cast-count
-cast-count c = search needs
-
-fixed-end-requires : tie.Need-fixed-end-requires
-fixed-end-requires c κs = search needs
 
 width-of-requires : tie.Need-width-of-requires
 width-of-requires c κs = search needs
@@ -32,15 +23,12 @@ add-result : tie.Need-add-result
 add-result c = omega (arith, product c)
 
 returns : tie.Need-returns
-returns c = rw (c .before .fixed-end .ensures .0, c .before .before .count-in .ensures .0, c .width-of .ensures .0)
+returns c = rw (c .width-of .ensures .0)
 
 pub list-end-spec : {M : Type 1} → statement M
 list-end-spec =
     tie.close
     (tie.spec
-    count-in-requires
-    cast-count
-    fixed-end-requires
     width-of-requires
     mul-result
     mul-result-2

@@ -7,7 +7,7 @@ use lib.Dec.{ltb, eqb}
 use lib.ListN.{length}
 use Rattle.layout.specs.Basics.{_and_, _or_}
 use Rattle.layout.specs.Octets.{field}
-use Rattle.layout.specs.Frames.{width, mostHighest, mostRanges, fixedEnd, listedIn, countIn}
+use Rattle.layout.specs.Frames.{width, mostHighest, mostRanges, fixedEnd, listEnd, listedIn, countIn}
 use Rattle.reader.proofs.read_status.Statement.{statement}
 use Rattle.reader.proofs.read_status.Tie as tie
 
@@ -19,9 +19,16 @@ not-4 : (c : tie.Else2) → let a = c .before .before .before .before .before .b
 not-4 c = rw (← c .before .before .number-at .ensures, ← c .before .most-highest .ensures) (le-ltb _ _ (c .if2 .left))
 
 not-5 : (c : tie.Else3)
-    → let a = c .before .before .before .before .before .before .before .before .args in
+    → let a = c .before .before .before .before .before .before .before .before .before .before .args in
     (listedIn (a .s .now) and (eqb (countIn (a .s .now) (width (a .long))) 0 or ltb mostRanges (countIn (a .s .now) (width (a .long))))) ≡ false
-not-5 c = sym (c .before .bad-count .ensures) ∙ c .if3 .left
+not-5 c = rw (← c .before .before .before .count-in .ensures .0, ← c .before .before .listed-in .ensures) (sym (c .before .bad-count .ensures) ∙ c .if3 .left)
+
+-- where the list ends
+ends : (c : tie.After-list-end)
+    → let a = c .before .before .before .before .before .before .before .before .before .before .before .args in c .list-end .result ≡ listEnd (a .s .now) (width (a .long))
+ends c =
+    let d = c .before .before .before .before in
+    rw (← d .before .before .before .before .before .fixed-end .ensures .0, ← d .count-in .ensures .0) (c .list-end .ensures)
 
 fixed-end-requires : tie.Need-fixed-end-requires
 fixed-end-requires c κs = search needs
@@ -38,11 +45,19 @@ most-highest-requires c κs = search needs
 returns-2 : tie.Need-returns-2
 returns-2 c = rw (not-3 (c .before .before .before), ← c .before .before .number-at .ensures, ← c .before .most-highest .ensures, lt-ltb _ _ (c .if2 .taken))
 
+count-in-requires : tie.Need-count-in-requires
+count-in-requires c κs = search needs
+
+listed-in-requires : tie.Need-listed-in-requires
+listed-in-requires c κs = search needs
+
 bad-count-requires : tie.Need-bad-count-requires
 bad-count-requires c κs = search needs
 
 returns-3 : tie.Need-returns-3
-returns-3 c = rw (not-3 (c .before .before .before .before .before), not-4 (c .before .before), sym (c .before .bad-count .ensures) ∙ c .if3 .taken)
+returns-3 c =
+    let d = c .before .before .before in
+    rw (not-3 (d .before .before .before .before), not-4 (d .before), ← d .count-in .ensures .0, ← c .before .before .listed-in .ensures, sym (c .before .bad-count .ensures) ∙ c .if3 .taken)
 
 list-end-requires : tie.Need-list-end-requires
 list-end-requires c κs = search needs
@@ -50,7 +65,8 @@ list-end-requires c κs = search needs
 returns-4 : tie.Need-returns-4
 returns-4 c =
     let d = c .before .before in
-    rw (not-3 (d .before .before .before .before .before), not-4 (d .before .before), not-5 d, ← c .before .list-end .ensures, lt-ltb _ _ (c .if4 .taken))
+    let e = d .before .before .before .before in
+    rw (not-3 (e .before .before .before), not-4 e, not-5 d, ← ends (c .before), lt-ltb _ _ (c .if4 .taken))
 
 head-in-requires : tie.Need-head-in-requires
 head-in-requires c κs = search needs
@@ -58,7 +74,8 @@ head-in-requires c κs = search needs
 returns-5 : tie.Need-returns-5
 returns-5 c =
     let d = c .before .before .before in
-    rw (not-3 (d .before .before .before .before .before), not-4 (d .before .before), not-5 d, ← c .before .before .list-end .ensures, le-ltb _ _ (c .before .if4 .left)) (c .head-in .ensures)
+    let e = d .before .before .before .before in
+    rw (not-3 (e .before .before .before), not-4 e, not-5 d, ← ends (c .before .before), le-ltb _ _ (c .before .if4 .left)) (c .head-in .ensures)
 
 pub read-status-spec : {M : Type 1} → statement M
 read-status-spec =
@@ -69,6 +86,8 @@ read-status-spec =
     number-at-requires
     most-highest-requires
     returns-2
+    count-in-requires
+    listed-in-requires
     bad-count-requires
     returns-3
     list-end-requires
