@@ -1,33 +1,32 @@
-// The C boundary of the codec and of the secondary's loss keeper: one function a call, on numbers, slices and arrays of
-// numbers. An answer from 0 on is document 01's, one below 0 is minus the number of a refusal. A flag or a form is a number,
-// 0 or not 0, since a `bool` that C made is undefined where its octet is neither 0 nor 1. include/x2u.h has C's side.
+// The C boundary of the secondary's loss keeper, and of reading a frame range by range: one function a call, on numbers, slices
+// and arrays of numbers. An answer from 0 on is document 01's, one below 0 is minus the number of a refusal. A flag or a form is
+// a number, 0 or not 0, since a `bool` that C made is undefined where its octet is neither 0 nor 1. include/x2u.h has C's side.
+// The crate x2u_frame has the calls on whole frames, an archive of their own: the compiler makes one of a function and its caller
+// where it has one caller in the archive, and no answer of reader and writer then passes through memory.
 ghost use mathlib.Core.Path.{_≡_};
 ghost use mathlib.Core.List.{[], _∷_};
 ghost use Prim.Native.Nat.{ℕ, _^_, _≤_, _<_};
 ghost use lib.IntN.{pos, negsuc, _-ℤ_};
 ghost use lib.ListN.{length};
-ghost use lib.Seq.{sets};
 ghost use Rattle.layout.specs.Basics.{bit};
-ghost use Rattle.layout.specs.Frames.{dataType, statusType, rangesOf, readFrame, writeData, writeStatus};
+ghost use Rattle.layout.specs.Frames.{dataType, statusType, readFrame};
 ghost use Rattle.bearer.specs.Keeper.{openKeeper, arrive, expire, confirm, status};
-ghost use Rattle.reader.specs.Answers.{ahead, Held};
 ghost use Rattle.keeper.specs.View.{isSet, keeperIn, opensInto, arrays};
-ghost use Rattle.x2u.specs.Boundary.{minus, leaves, writes, counts, settles, reports, fieldsOf, reads, startsOf, endsOf, readsAll, cursorIn, begins, stepIn, steps};
+ghost use Rattle.x2u.specs.Boundary.{minus, leaves, counts, settles, reports, fieldsOf, reads, cursorIn, begins, stepIn, steps};
 ghost use Rattle.x2u.specs.Looks.{kindOf, refusalOf, answerTo, isStatus, firstOf};
 
 const MOST_OCTETS: usize = 1018; // the greatest length of a frame
 
 // ---- reading
 
-// What a look at a frame tells: its type, 0 to 3, or 4 and the number of a refusal. Two words, so that they pass in registers.
-struct Seen {
-    kind: u32,
-    refusal: u32,
+// What a look at a frame tells: its type, 0 to 3, or 4 and the number of a refusal.
+pub struct Seen {
+    pub kind: u32,
+    pub refusal: u32,
 }
 
-// Reads a frame into its fields. The one place that calls the reader: where a function has one caller the compiler makes
-// one of both, and the reader's answer then passes through no memory.
-fn look(frame: &[u8], fields: &mut [u32; 6]) -> Seen
+// Reads a frame into its fields. The one place that calls the reader.
+pub fn look(frame: &[u8], fields: &mut [u32; 6]) -> Seen
     ensures { λ r. ⌜ (r .kind ≡ kindOf (readFrame (now (frame .entry)))) × (r .refusal ≡ refusalOf (readFrame (now (frame .entry))))
         × (now (fields .exit) ≡ fieldsOf (now (fields .entry)) (readFrame (now (frame .entry)))) ⌝ }
 {
@@ -61,7 +60,7 @@ fn look(frame: &[u8], fields: &mut [u32; 6]) -> Seen
 }
 
 // The answer to what was seen.
-fn answer(seen: Seen) -> i64
+pub fn answer(seen: Seen) -> i64
     ensures { λ r. ⌜ r ≡ answerTo (seen .kind) (seen .refusal) ⌝ }
 {
     if seen.kind < 4 {
@@ -71,7 +70,7 @@ fn answer(seen: Seen) -> i64
 }
 
 // Whether a status was seen.
-fn is_status(kind: u32) -> bool
+pub fn is_status(kind: u32) -> bool
     ensures { λ r. ⌜ r ≡ isStatus kind ⌝ }
 {
     if kind == 1 {
@@ -81,7 +80,7 @@ fn is_status(kind: u32) -> bool
 }
 
 // The cursor before the first of so many ranges of a status of this type.
-fn first_of(kind: u32, count: u32) -> reader::Cursor
+pub fn first_of(kind: u32, count: u32) -> reader::Cursor
     ensures { λ r. ⌜ (r ≡ firstOf kind count) × (r .place ≤ 13) ⌝ }
 {
     if kind == 2 {
@@ -106,40 +105,6 @@ pub extern "C" fn x2u_read(frame: &[u8], fields: &mut [u32; 6]) -> i64
 {
     let seen = look(frame, fields);
     answer(seen)
-}
-
-// Reads a frame with all its ranges in one call: the type and the fields as x2u_read has them, and the ranges at the front of
-// starts and ends, whose other places stay as they were.
-#[no_mangle]
-pub extern "C" fn x2u_read_all(frame: &[u8], fields: &mut [u32; 6], starts: &mut [u32; 162], ends: &mut [u32; 162]) -> i64
-    ensures { λ r. ⌜ leaves r ((now (fields .exit)), (now (starts .exit)), (now (ends .exit)))
-        ≡ readsAll (now (fields .entry)) (now (starts .entry)) (now (ends .entry)) (readFrame (now (frame .entry))) ⌝ }
-{
-    let seen = look(frame, fields);
-    if is_status(seen.kind) {
-        put_ranges(frame, first_of(seen.kind, fields[4]), starts, ends);
-        return answer(seen);
-    }
-    answer(seen)
-}
-
-// Puts the ranges from a cursor on at the front of starts and ends.
-fn put_ranges(frame: &[u8], first: reader::Cursor, starts: &mut [u32; 162], ends: &mut [u32; 162])
-    requires { ⌜ Held (now frame) first × (first .left ≤ 162) ⌝ }
-    ensures { λ _. ⌜ (now (starts .exit) ≡ sets (now (starts .entry)) 0 (startsOf (ahead (now (frame .entry)) first)))
-        × (now (ends .exit) ≡ sets (now (ends .entry)) 0 (endsOf (ahead (now (frame .entry)) first))) ⌝ }
-{
-    let mut at = first;
-    let mut i: usize = 0;
-    while i < 162 {
-        let reader::Step::Range { start, end, rest } = reader::next_range(frame, at) else {
-            return;
-        };
-        starts[i] = start;
-        ends[i] = end;
-        at = rest;
-        i += 1;
-    }
 }
 
 // Puts a cursor before the first range of a frame: how many ranges it has, which for data is none.
@@ -178,47 +143,6 @@ pub extern "C" fn x2u_next_range(frame: &[u8], cursor: &mut [u32; 3], range: &mu
             1
         }
         reader::Step::End => 0,
-    }
-}
-
-// ---- writing
-
-// Writes a data frame at the front of a buffer: how many octets it has.
-#[no_mangle]
-pub extern "C" fn x2u_write_data(long: u32, number: u32, dst: &mut [u8]) -> i64
-    ensures { λ r. ⌜ leaves r (now (dst .exit)) ≡ writes (writeData (isSet long) number (now (dst .entry))) ⌝ }
-{
-    match writer::write_data(is_set(long), number, dst) {
-        writer::Wrote::Octets(n) => octets(n),
-        writer::Wrote::Refused(n) => refused(n),
-    }
-}
-
-// Writes a status frame at the front of a buffer: how many octets it has. Range i is starts[i] to ends[i].
-#[no_mangle]
-pub extern "C" fn x2u_write_status(
-    long: u32,
-    last: u32,
-    highest: u32,
-    desired: u32,
-    minimum: u32,
-    starts: &[u32],
-    ends: &[u32],
-    dst: &mut [u8],
-) -> i64
-    ensures { λ r. ⌜ leaves r (now (dst .exit))
-        ≡ writes (writeStatus (record { long = isSet long; final = isSet last; highest = highest; desired = desired; minimum = minimum; ranges = rangesOf (now (starts .entry)) (now (ends .entry)) }) (now (dst .entry))) ⌝ }
-{
-    let head = writer::Head {
-        long: is_set(long),
-        last: is_set(last),
-        highest: highest,
-        desired: desired,
-        minimum: minimum,
-    };
-    match writer::write_status(head, starts, ends, dst) {
-        writer::Wrote::Octets(n) => octets(n),
-        writer::Wrote::Refused(n) => refused(n),
     }
 }
 
@@ -363,7 +287,7 @@ pub extern "C" fn x2u_keeper_status(
 // ---- answers
 
 // A refusal n is answered as minus n.
-fn refused(n: u32) -> i64
+pub fn refused(n: u32) -> i64
     ensures { λ r. ⌜ r ≡ minus n ⌝ }
 {
     less(0, n)
@@ -408,7 +332,7 @@ fn status_kind(long: bool) -> u32
 // ---- words
 
 // A number that isn't 0 is yes.
-fn is_set(word: u32) -> bool
+pub fn is_set(word: u32) -> bool
     ensures { λ r. ⌜ r ≡ isSet word ⌝ }
 {
     word != 0

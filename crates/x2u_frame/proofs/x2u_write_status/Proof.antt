@@ -4,12 +4,12 @@ use native.Mathlib.Omega.{arith}
 use mathlib.Core.Bool.{Bool}
 use Rattle.layout.specs.Frames.{Status, Written, rangesOf, writeStatus}
 use Rattle.keeper.specs.View.{isSet}
 use Rattle.x2u.proofs.Answers.{left-as}
 use Rattle.x2u.proofs.Within.{answered-within, within-status}
 use Rattle.x2u.specs.Boundary.{writes}
 use borrow.Author.Needs.{needs}
-use Rattle.x2u.proofs.x2u_write_status.Statement.{statement}
-use Rattle.x2u.proofs.x2u_write_status.Tie as tie
+use Rattle.x2u_frame.proofs.x2u_write_status.Statement.{statement}
+use Rattle.x2u_frame.proofs.x2u_write_status.Tie as tie
 
 -- the status of the arguments, by its two flags
 abbrev status-of : tie.Start → Bool → Bool → Status

@@ -9,10 +9,10 @@ use lib.Seq.{sets}
 use Rattle.layout.specs.Frames.{Range, width, rangesAt}
 use Rattle.reader.specs.Answers.{ahead, Held}
 use Rattle.reader.proofs.Walk.{went, ended}
 use Rattle.x2u.specs.Boundary.{startsOf, endsOf}
 use borrow.Author.Needs.{needs}
-use Rattle.x2u.proofs.put_ranges.Statement.{statement}
-use Rattle.x2u.proofs.put_ranges.Tie as tie
+use Rattle.x2u_frame.proofs.put_ranges.Statement.{statement}
+use Rattle.x2u_frame.proofs.put_ranges.Tie as tie
 
 abbrev Inv-loop : tie.InvT-loop
 Inv-loop frame starts₀ ends₀ at₀ i₀ starts ends at i =

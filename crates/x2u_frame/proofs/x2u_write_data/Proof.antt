@@ -4,12 +4,12 @@ use native.Mathlib.Omega.{arith}
 use mathlib.Core.Bool.{Bool}
 use Rattle.layout.specs.Frames.{Written, writeData}
 use Rattle.keeper.specs.View.{isSet}
 use Rattle.x2u.proofs.Answers.{left-as}
 use Rattle.x2u.proofs.Within.{answered-within, within-data}
 use Rattle.x2u.specs.Boundary.{writes}
 use borrow.Author.Needs.{needs}
-use Rattle.x2u.proofs.x2u_write_data.Statement.{statement}
-use Rattle.x2u.proofs.x2u_write_data.Tie as tie
+use Rattle.x2u_frame.proofs.x2u_write_data.Statement.{statement}
+use Rattle.x2u_frame.proofs.x2u_write_data.Tie as tie
 
 -- the flag that was passed is the form
 form : (k : tie.After-write-data) → let a = k .before .before .before .before .args in

@@ -2,13 +2,13 @@
 use mathlib.Core.Path.{refl, sym, _∙_, ap}
 use lib.IntN.{ℤ}
 use Rattle.layout.specs.Frames.{readFrame}
 use Rattle.x2u.specs.Boundary.{leaves, fieldsOf, rangesIn, startsOf, endsOf}
 use lib.Seq.{sets}
 use Rattle.x2u.proofs.Answers.{left-as}
 use Rattle.x2u.proofs.Statuses.{told, listed, unlisted}
 use borrow.Author.Needs.{needs}
-use Rattle.x2u.proofs.x2u_read_all.Statement.{statement}
-use Rattle.x2u.proofs.x2u_read_all.Tie as tie
+use Rattle.x2u_frame.proofs.x2u_read_all.Statement.{statement}
+use Rattle.x2u_frame.proofs.x2u_read_all.Tie as tie
 
 look-requires : tie.Need-look-requires
 look-requires c κs = search needs
