@@ -21,7 +21,7 @@ use Rattle.reader.specs.declared.Head.{Head}
 use Rattle.reader.specs.declared.Frame.the-variants as frame
 use Rattle.reader.specs.declared.Cursor.{Cursor}
 use Rattle.reader.specs.declared.Step.the-variants as step
-use Rattle.reader.specs.Answers.{readingOf, cursorOf, nextIn, ahead, Held}
+use Rattle.reader.specs.Answers.{readingOf, cursorOf, nextIn, ahead, Held, there}
 use Rattle.reader.proofs.Unique.{same-status}
 
 -- a walk from a cursor on: each range that is answered, and that none is left behind the last
@@ -36,7 +36,7 @@ apart e = absurd (omega arith)
 -- ---- a step, by what is left
 
 -- the frame that holds the ranges holds those behind the first
-held-behind : (long : Bool) (place n m : ℕ) → place + suc n * (2 * width long) ≤ m → place + 2 * width long + n * (2 * width long) ≤ m
+pub held-behind : (long : Bool) (place n m : ℕ) → place + suc n * (2 * width long) ≤ m → place + 2 * width long + n * (2 * width long) ≤ m
 held-behind true place n m h = omega arith
 held-behind false place n m h = omega arith
 
@@ -115,6 +115,10 @@ end-at s long place (suc n) h e =
 -- that none is left was answered, and the frame holds what is ahead: nothing is
 pub ended : (s : List ℕ) (c : Cursor) → Held s c → nextIn s c ≡ step.End → ahead s c ≡ []
 ended s c h e = rw (end-at s (c .long) (c .place) (c .left) h e)
+
+-- the frame holds what is ahead, and it is no more than a frame carries: it is all there
+pub all-there : (s : List ℕ) (c : Cursor) → c .left ≤ mostRanges → Held s c → ahead s c ≡ there s c
+all-there s c h k = rw (le-ltb mostRanges (c .left) h, le-ltb (length s) (c .place + c .left * (2 * width (c .long))) k)
 
 -- ---- from a frame that is read as a status
 

@@ -1,13 +1,13 @@
 -- What the reader's answers mean in document 01's words, and what the walk over a status's ranges answers.
 -- Assumes nothing.
-use mathlib.Core.List.{List}
+use mathlib.Core.List.{List, [], map}
 use Prim.Native.Nat.{ℕ, _+_, _-_, _*_, _≤_}
 use lib.Dec.{ltb, eqb}
 use lib.ListN.{length}
 use Rattle.layout.specs.Basics.{if_then_else_, _or_}
 use Rattle.layout.specs.Octets.{field}
 use Rattle.layout.specs.Frames as frames
-use Rattle.layout.specs.Frames.{Reading, data-of, status-of, refuse, width, listAt, rangesAt}
+use Rattle.layout.specs.Frames.{Reading, data-of, status-of, refuse, width, mostRanges, listAt, rangesAt}
 use Rattle.reader.specs.declared.Head.{Head}
 use Rattle.reader.specs.declared.Frame.{Frame}
 use Rattle.reader.specs.declared.Frame.the-variants.{Data, Status, Refused}
@@ -40,6 +40,17 @@ ahead s c = rangesAt s (width (c .long)) (c .place) (c .left)
 -- the frame holds them all
 abbrev pub Held : List ℕ → Cursor → Type 0
 Held s c = c .place + c .left * (2 * width (c .long)) ≤ length s
+
+-- the ranges from a cursor on, where the frame holds them all and they are no more than a frame carries; otherwise none
+abbrev pub there : List ℕ → Cursor → List frames.Range
+there s c = if ltb mostRanges (c .left) or ltb (length s) (c .place + c .left * (2 * width (c .long))) then [] else ahead s c
+
+-- the first and the last numbers of ranges
+abbrev pub startsOf : List frames.Range → List ℕ
+startsOf rs = map (λ (r : frames.Range). r .start) rs
+
+abbrev pub endsOf : List frames.Range → List ℕ
+endsOf rs = map (λ (r : frames.Range). r .end) rs
 
 -- the range at a cursor and the cursor behind it; none where none is left or the frame has ended
 abbrev pub nextIn : List ℕ → Cursor → Step

@@ -4,11 +4,12 @@ ghost use mathlib.Core.Path.{_≡_};
 ghost use Prim.Native.Nat.{_+_, _*_, _≤_, _<_};
 ghost use lib.Dec.{ltb, eqb};
 ghost use lib.ListN.{length};
+ghost use lib.Seq.{sets};
 ghost use Rattle.layout.specs.Basics.{_and_, _or_};
 ghost use Rattle.layout.specs.Octets.{field};
-ghost use Rattle.layout.specs.Frames.{width, mostHighest, mostRanges, typeIn, finalIn, listedIn, countIn, fixedEnd, listEnd, statusIn, badLength};
+ghost use Rattle.layout.specs.Frames.{width, mostHighest, mostRanges, typeIn, finalIn, listedIn, countIn, fixedEnd, statusIn, badLength, rangesAt};
 ghost use Rattle.layout.specs.Frames.{status-of, readStatus, readType, readFrame};
-ghost use Rattle.reader.specs.Answers.{readingOf, cursorOf, nextIn};
+ghost use Rattle.reader.specs.Answers.{readingOf, cursorOf, nextIn, there, startsOf, endsOf};
 
 const MOST_OCTETS: usize = 1018; // the greatest length of a frame
 
@@ -306,5 +307,51 @@ pub fn next_range(frame: &[u8], at: Cursor) -> Step
             place: place + 2 * w,
             left: left - 1,
         },
+    }
+}
+
+// ---- all of a status's ranges at once
+
+// Puts the ranges from a cursor on at the front of starts and ends, whose other places stay as they were: all of them, where the
+// frame holds them all and they are no more than a frame carries, and otherwise none.
+pub fn put_ranges(frame: &[u8], at: Cursor, starts: &mut [u32; 162], ends: &mut [u32; 162])
+    ensures { λ _. ⌜ (now (starts .exit) ≡ sets (now (starts .entry)) 0 (startsOf (there (now (frame .entry)) at)))
+        × (now (ends .exit) ≡ sets (now (ends .entry)) 0 (endsOf (there (now (frame .entry)) at))) ⌝ }
+{
+    let place = at.place;
+    let left = at.left;
+    if left == 0 {
+        return;
+    }
+    if MOST_RANGES < left {
+        return;
+    }
+    let long = at.long;
+    let n = frame.len();
+    let size = list_end(0, left, long);
+    if n < size {
+        return;
+    }
+    // As in next_range, the place may be any number.
+    if n - size < place {
+        return;
+    }
+    lay_ranges(frame, long, place, left as usize, starts, ends);
+}
+
+// Lays so many ranges from a place on at the front of starts and ends.
+fn lay_ranges(frame: &[u8], long: bool, place: usize, count: usize, starts: &mut [u32; 162], ends: &mut [u32; 162])
+    requires { ⌜ (count ≤ 162) × (place + count * (2 * width long) ≤ length (now frame)) ⌝ }
+    ensures { λ _. ⌜ (now (starts .exit) ≡ sets (now (starts .entry)) 0 (startsOf (rangesAt (now (frame .entry)) (width long) place count)))
+        × (now (ends .exit) ≡ sets (now (ends .entry)) 0 (endsOf (rangesAt (now (frame .entry)) (width long) place count))) ⌝ }
+{
+    let w = width_of(long);
+    let mut at = place;
+    let mut i: usize = 0;
+    while i < count {
+        starts[i] = number_at(frame, at, long);
+        ends[i] = number_at(frame, at + w, long);
+        at += 2 * w;
+        i += 1;
     }
 }

@@ -1,6 +1,6 @@
 -- What was read, by its type: the answer, and of a status the cursor before its ranges.
 -- Assumes nothing.
-use mathlib.Core.Path.{_≡_, refl, _∙_, ap}
+use mathlib.Core.Path.{_≡_, refl, sym, _∙_, ap}
 use mathlib.Core.Bool.{Bool, true, false}
 use mathlib.Core.List.{List, [], _∷_}
 use Prim.Native.Nat.{ℕ, _≤_, _<_}
@@ -13,8 +13,8 @@ use Rattle.layout.proofs.Octets.{length-rangesAt}
 use Rattle.reader.specs.declared.Head.{Head}
 use Rattle.reader.specs.declared.Frame.the-variants as read
 use Rattle.reader.specs.declared.Cursor.{Cursor}
-use Rattle.reader.specs.Answers.{readingOf, ahead, Held}
-use Rattle.reader.proofs.Walk.{before, stands}
+use Rattle.reader.specs.Answers.{readingOf, there}
+use Rattle.reader.proofs.Walk.{before, stands, all-there}
 use Rattle.x2u.specs.Boundary.{minus, leaves, typeOf, fieldsOf, rangesIn, begins, wordsOf}
 use Rattle.x2u.specs.Looks.{kindOf, refusalOf, isStatus, answerTo, firstOf}
 
@@ -42,19 +42,13 @@ first-is : (b : Bool) (st : Status) → st .long ≡ b → firstOf (statusType b
 first-is true st e = rw e
 first-is false st e = rw e
 
--- what a look says of the ranges of a status
-pub record Listed (s old : List ℕ) (r : Reading) : Type 0 where
-  pub held : Held s (firstOf (kindOf r) (getD (fieldsOf old r) 4 0))
-  pub few : firstOf (kindOf r) (getD (fieldsOf old r) 4 0) .left ≤ 162
-  pub there : ahead s (firstOf (kindOf r) (getD (fieldsOf old r) 4 0)) ≡ rangesIn r
-
-pub listed : (s old : List ℕ) (r : Reading) → readFrame s ≡ r → isStatus (kindOf r) ≡ true → Listed s old r
+-- by what a look tells, the ranges of a status are there
+pub listed : (s old : List ℕ) (r : Reading) → readFrame s ≡ r → isStatus (kindOf r) ≡ true → there s (firstOf (kindOf r) (getD (fieldsOf old r) 4 0)) ≡ rangesIn r
 listed s old (data-of true n) e t = apart (cc)
 listed s old (data-of false n) e t = apart (cc)
 listed s old (status-of st) e t =
     let x = stands s st e in
-    let c = first-is (st .long) st refl in
-    record { held = rw c (x .held); few = rw c (x .few); there = ap (ahead s) c ∙ x .there }
+    ap (there s) (first-is (st .long) st refl) ∙ sym (all-there s (before st) (x .few) (x .held)) ∙ x .there
 listed s old (refuse n) e t = apart (cc)
 
 -- no status has no ranges

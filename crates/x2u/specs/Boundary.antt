@@ -1,7 +1,7 @@
 -- What the C boundary answers and leaves, by the definitions that the contracts of the crates below it cite.
 -- An answer is one integer: from 0 on what document 01 answers, below 0 a refusal.
 -- Assumes nothing.
-use mathlib.Core.List.{List, [], _∷_, map}
+use mathlib.Core.List.{List, [], _∷_}
 use Prim.Native.Nat.{ℕ}
 use lib.Dec.{ltb}
 use lib.IntN.{ℤ, pos, negℤ}
@@ -15,7 +15,7 @@ use Rattle.bearer.specs.Keeper.{Keeper, Reported}
 use Rattle.reader.specs.declared.Cursor.{Cursor}
 use Rattle.reader.specs.declared.Step.{Step}
 use Rattle.reader.specs.declared.Step.the-variants.{Range, End}
-use Rattle.reader.specs.Answers.{nextIn}
+use Rattle.reader.specs.Answers.{nextIn, startsOf, endsOf}
 use Rattle.keeper.specs.View.{isSet}
 
 -- ---- answers
@@ -79,13 +79,6 @@ abbrev pub rangesIn : Reading → List frames.Range
 rangesIn (data-of long n) = []
 rangesIn (status-of s) = s .ranges
 rangesIn (refuse n) = []
-
--- the first and the last numbers of ranges
-abbrev pub startsOf : List frames.Range → List ℕ
-startsOf rs = map (λ (r : frames.Range). r .start) rs
-
-abbrev pub endsOf : List frames.Range → List ℕ
-endsOf rs = map (λ (r : frames.Range). r .end) rs
 
 -- the type and the fields
 abbrev pub reads : List ℕ → Reading → Left (List ℕ)

@@ -1,13 +1,11 @@
 // The C boundary of whole frames: reading one with all its ranges in one call, and writing one. Answers, flags and forms are as
 // in the crate x2u, which has the other calls. These have an archive of their own, where reader and writer have one caller each.
 ghost use mathlib.Core.Path.{_≡_};
-ghost use Prim.Native.Nat.{_^_, _≤_, _<_};
+ghost use Prim.Native.Nat.{_^_, _<_};
 ghost use lib.IntN.{pos};
-ghost use lib.Seq.{sets};
 ghost use Rattle.layout.specs.Frames.{rangesOf, readFrame, writeData, writeStatus};
-ghost use Rattle.reader.specs.Answers.{ahead, Held};
 ghost use Rattle.keeper.specs.View.{isSet};
-ghost use Rattle.x2u.specs.Boundary.{leaves, writes, startsOf, endsOf, readsAll};
+ghost use Rattle.x2u.specs.Boundary.{leaves, writes, readsAll};
 
 // ---- reading
 
@@ -25,29 +23,10 @@ pub extern "C" fn x2u_read_all(
 {
     let seen = x2u::look(frame, fields);
     if x2u::is_status(seen.kind) {
-        put_ranges(frame, x2u::first_of(seen.kind, fields[4]), starts, ends);
+        reader::put_ranges(frame, x2u::first_of(seen.kind, fields[4]), starts, ends);
         return x2u::answer(seen);
     }
     x2u::answer(seen)
-}
-
-// Puts the ranges from a cursor on at the front of starts and ends.
-fn put_ranges(frame: &[u8], first: reader::Cursor, starts: &mut [u32; 162], ends: &mut [u32; 162])
-    requires { ⌜ Held (now frame) first × (first .left ≤ 162) ⌝ }
-    ensures { λ _. ⌜ (now (starts .exit) ≡ sets (now (starts .entry)) 0 (startsOf (ahead (now (frame .entry)) first)))
-        × (now (ends .exit) ≡ sets (now (ends .entry)) 0 (endsOf (ahead (now (frame .entry)) first))) ⌝ }
-{
-    let mut at = first;
-    let mut i: usize = 0;
-    while i < 162 {
-        let reader::Step::Range { start, end, rest } = reader::next_range(frame, at) else {
-            return;
-        };
-        starts[i] = start;
-        ends[i] = end;
-        at = rest;
-        i += 1;
-    }
 }
 
 // ---- writing

@@ -2,7 +2,8 @@
 use mathlib.Core.Path.{refl, sym, _∙_, ap}
 use lib.IntN.{ℤ}
 use Rattle.layout.specs.Frames.{readFrame}
-use Rattle.x2u.specs.Boundary.{leaves, fieldsOf, rangesIn, startsOf, endsOf}
+use Rattle.reader.specs.Answers.{startsOf, endsOf}
+use Rattle.x2u.specs.Boundary.{leaves, fieldsOf, rangesIn}
 use lib.Seq.{sets}
 use Rattle.x2u.proofs.Answers.{left-as}
 use Rattle.x2u.proofs.Statuses.{told, listed, unlisted}
@@ -23,14 +24,7 @@ first-of-requires : tie.Need-first-of-requires
 first-of-requires c κs = search needs
 
 put-ranges-requires : tie.Need-put-ranges-requires
-put-ranges-requires c κs =
-    let k = c .before .before .before .before .before .before in
-    let a = k .before .before .before .args in
-    let seen = k .look .ensures in
-    let t = rw (seen .0) at (sym (c .before .before .before .before .before .is-status .ensures) ∙ c .before .before .before .before .if1 .taken) in
-    let at = rw (seen .0, seen .2) at (c .before .before .first-of .ensures .0) in
-    let l = listed (a .frame .now) (a .fields .now) _ refl t in
-    (rw at (l .held), rw at (l .few))
+put-ranges-requires c κs = search needs
 
 answer-requires : tie.Need-answer-requires
 answer-requires c κs = search needs
@@ -46,7 +40,7 @@ returns c =
     let at = rw (seen .0, seen .2) at (q .before .before .first-of .ensures .0) in
     let l = listed (a .frame .now) (a .fields .now) _ refl t in
     left-as (c .answer .ok) (c .answer .ensures)
-    (rw (c .before .put-ranges .ensures .0, c .before .put-ranges .ensures .1, at, l .there, seen .0, seen .1, seen .2)
+    (rw (c .before .put-ranges .ensures .0, c .before .put-ranges .ensures .1, at, l, seen .0, seen .1, seen .2)
     (ap (λ (z : ℤ). leaves z (fieldsOf (a .fields .now) r, sets (a .starts .now) 0 (startsOf (rangesIn r)), sets (a .ends .now) 0 (endsOf (rangesIn r)))) (told r)))
 
 answer-requires-2 : tie.Need-answer-requires-2
