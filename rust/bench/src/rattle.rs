@@ -17,7 +17,8 @@ impl Side for Rattle {
         let (kind, starts, ends) = boundary::read_all(octets, &mut fields, &mut starts, &mut ends);
         match kind {
             1 | 2 => {
-                let sum: i64 = starts.iter().chain(ends).map(|&n| i64::from(n)).sum();
+                let ranges = starts.iter().zip(ends);
+                let sum: i64 = ranges.map(|(&s, &e)| i64::from(s) + i64::from(e)).sum();
                 sum + i64::from(fields[0]) + i64::from(fields[1]) + i64::from(fields[2])
             }
             0.. => i64::from(fields[0]),
