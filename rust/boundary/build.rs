@@ -7,7 +7,11 @@ const FOLDER: &str = "X2U_ARCHIVES";
 
 fn main() {
     println!("cargo:rerun-if-env-changed={FOLDER}");
-    for (feature, name) in [("PRODUCT", "x2u"), ("PRODUCT", "x2u_frame"), ("PROBE", "probe")] {
+    for (feature, name) in [
+        ("PRODUCT", "x2u"),
+        ("PRODUCT", "x2u_frame"),
+        ("PROBE", "probe"),
+    ] {
         if env::var_os(format!("CARGO_FEATURE_{feature}")).is_some() {
             link(name);
         }
