@@ -349,8 +349,18 @@ fn statuses<S: Side>(add: &mut impl FnMut(&str, &str, Option<f64>, Run)) {
     );
 }
 
-/// A hostile frame, against what the ledger holds and against its own length.
+/// Sends into a ledger, and a hostile frame against what the ledger holds and
+/// against its own length.
 fn ledger<S: Side>(cases: &mut Vec<Case>) {
+    for turns in [64, 512] {
+        cases.push(Case {
+            id: format!("send-{turns}"),
+            title: format!("send; 0 to {} entries, with the opening", turns - 1),
+            table: "ledger",
+            goal: None,
+            run: sends::<S>(turns),
+        });
+    }
     let report = Report {
         highest: 262_143,
         ..REPORT
@@ -388,6 +398,20 @@ fn ledger<S: Side>(cases: &mut Vec<Case>) {
             run: hostile::<S>(512, octets),
         });
     }
+}
+
+/// So many sends into a ledger that is opened for each batch, within it.
+fn sends<S: Side>(turns: u32) -> Run {
+    let clock = Clock::new();
+    assert_eq!(S::sends(18, turns), turns * (turns - 1) / 2);
+    Box::new(move |least| {
+        let mut measured = Measured::default();
+        while measured.calls < least {
+            let time = clock.time(|| S::sends(18, black_box(turns)));
+            measured.add(time, turns.into());
+        }
+        measured
+    })
 }
 
 /// Frames refused by a ledger that was filled before; filling it is taken off.

@@ -47,6 +47,10 @@ pub trait Side: 'static {
     /// A status is built.
     fn status(keeper: &mut Self::Keeper, buffer: &mut [u8]) -> i64;
 
+    /// Opens a master at number 0 and PDCP number 0 and sends so many packets,
+    /// each into a ledger that has room: one opened afresh takes the place of a
+    /// full one. The answer is the sum of their numbers.
+    fn sends(pdcp_bits: u32, turns: u32) -> u32;
     /// Opens a master at number 0 and PDCP number 0, sends `entries` packets,
     /// and gives it the frame so many times. The answer tells the last one.
     fn accepts(pdcp_bits: u32, entries: u32, turns: u32, octets: &[u8]) -> u32;

@@ -87,6 +87,11 @@ impl Side for Rattle {
     }
 
     #[inline(never)]
+    fn sends(pdcp_bits: u32, turns: u32) -> u32 {
+        boundary::ledger_sends(pdcp_bits, turns)
+    }
+
+    #[inline(never)]
     fn accepts(pdcp_bits: u32, entries: u32, turns: u32, octets: &[u8]) -> u32 {
         boundary::ledger_accepts(pdcp_bits, entries, turns, octets)
     }

@@ -92,6 +92,21 @@ impl Side for Rust {
     }
 
     #[inline(never)]
+    fn sends(pdcp_bits: u32, turns: u32) -> u32 {
+        let open = || Ledger::open(pdcp_bits, 0, 0).expect("benchmarks open well");
+        let mut ledger = open();
+        let mut sum = 0_u32;
+        for turn in 0..turns {
+            let at = turn % 512;
+            if at == 0 {
+                ledger = open();
+            }
+            sum = sum.wrapping_add(ledger.send(at).expect("benchmarks send in order"));
+        }
+        sum
+    }
+
+    #[inline(never)]
     fn accepts(pdcp_bits: u32, entries: u32, turns: u32, octets: &[u8]) -> u32 {
         let mut ledger = Ledger::open(pdcp_bits, 0, 0).expect("benchmarks open well");
         for pdcp in 0..entries {

@@ -47,7 +47,10 @@ fn tables(criterion: &Path, counts: &str, lister: &str) -> Result<String, String
         ("apart", "Reading with a call for each range on both sides"),
         ("lengths", "Reading against the frame's length (long form)"),
         ("keeper", "The keeper"),
-        ("ledger", "The ledger against hostile frames (long form)"),
+        (
+            "ledger",
+            "The ledger: sends, and hostile frames (long form)",
+        ),
     ] {
         text += &format!("### {title}\n\n");
         text += "| case | Rust ns | Rattle ns | ratio | goal | Rust instructions | Rattle instructions |\n";
