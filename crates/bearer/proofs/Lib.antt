@@ -43,3 +43,4 @@ pub mod Applied
 pub mod AcceptsAny
 pub mod LedgerMeans
 pub mod Labels
+pub mod Within

@@ -10,3 +10,4 @@ pub mod Blocks
 pub mod Feeds
 pub mod Sample
 pub mod Unique
+pub mod Holding

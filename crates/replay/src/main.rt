@@ -2,7 +2,10 @@
 // and writing is the crate replaying's.
 ghost use mathlib.Core.Path.{_≡_};
 ghost use Prim.Native.Nat.{_+_, _≤_, _<_};
-ghost use lib.ListN.{length};
+ghost use mathlib.Core.List.{_++_};
+ghost use lib.ListN.{length, take};
+ghost use Rattle.calling.specs.Calls.{readCall, frameAfter};
+ghost use Rattle.replay.specs.Lines.{heldOf, Takes};
 use calling::Call;
 use ledger::Ledger;
 use libc::STDIN_FILENO;
@@ -31,7 +34,7 @@ fn next_place(out: &[u8], at: usize) -> Next
     requires { ⌜ (18432 ≤ length (now out)) × (at ≤ length (now out)) ⌝ }
     ensures { λ r. ⌜ r .at + 18432 ≤ length (now (out .entry)) ⌝ }
 {
-    if replaying::has_room(out.len(), at) {
+    if answering::has_room(out.len(), at) {
         return Next {
             at: at,
             written: true,
@@ -44,7 +47,7 @@ fn next_place(out: &[u8], at: usize) -> Next
     }
 }
 
-// What a part of a block holds of a line: how many octets were taken, how many are held of the line, and whether its line
+// What a part of a block adds to a line: how many octets were taken, how many are held of the line, and whether its line
 // feed was among them.
 struct Part {
     taken: usize,
@@ -55,7 +58,7 @@ struct Part {
 // Holds more of a line, up to the octet that shows that it is too long, and answers how much is held.
 fn hold(part: &[u8], line: &mut [u8; 2044], held: usize) -> usize
     requires { ⌜ held ≤ 2044 ⌝ }
-    ensures { λ r. ⌜ r ≤ 2044 ⌝ }
+    ensures { λ r. ⌜ (r ≤ 2044) × (take r (now (line .exit)) ≡ heldOf (take held (now (line .entry)) ++ now (part .entry))) ⌝ }
 {
     listing::lay_text(calling::first(part, MOST_HELD - held), line, held)
 }
@@ -63,7 +66,7 @@ fn hold(part: &[u8], line: &mut [u8; 2044], held: usize) -> usize
 // Takes the octets of a block through its first line feed, or all.
 fn take_line(block: &[u8], line: &mut [u8; 2044], held: usize) -> Part
     requires { ⌜ (0 < length (now block)) × (held ≤ 2044) ⌝ }
-    ensures { λ r. ⌜ (0 < r .taken) × (r .taken ≤ length (now (block .entry))) × (r .held ≤ 2044) ⌝ }
+    ensures { λ r. ⌜ Takes (now (block .entry)) (take held (now (line .entry))) r (take (r .held) (now (line .exit))) ⌝ }
 {
     let end = listing::line_end(block);
     let held = hold(calling::first(block, end), line, held);
@@ -82,7 +85,9 @@ fn take_line(block: &[u8], line: &mut [u8; 2044], held: usize) -> Part
 }
 
 // The call that the line says which is held.
-fn held_call(line: &[u8], held: usize, frame: &mut [u8; 1018]) -> Call {
+fn held_call(line: &[u8], held: usize, frame: &mut [u8; 1018]) -> Call
+    ensures { λ r. ⌜ (r ≡ readCall (take held (now (line .entry)))) × (now (frame .exit) ≡ frameAfter (take held (now (line .entry))) (now (frame .entry))) ⌝ }
+{
     calling::read_call(calling::first(line, held), frame)
 }
 
@@ -103,7 +108,6 @@ fn play_block(
     ensures { λ r. ⌜ (r .at ≤ length (now (out .exit))) × (r .held ≤ 2044) ⌝ }
 {
     let mut frame = empty_frame();
-    let mut buffer = empty_buffer();
     let mut s = state;
     let mut from = 0;
     while from < block.len() {
@@ -122,36 +126,11 @@ fn play_block(
             return s;
         }
         if !replaying::takes_ledger(call, s.opened) {
-            s.at = replaying::play_keeper(
-                call,
-                numbers,
-                pdcps,
-                marks,
-                starts,
-                ends,
-                words,
-                s.opened,
-                &mut buffer,
-                out,
-                next.at,
-            );
+            s.at = replaying::play_keeper(call, numbers, pdcps, marks, starts, ends, words, s.opened, out, next.at);
             continue;
         }
         let l = s.ledger;
-        let p = replaying::play_master(
-            call,
-            &frame,
-            numbers,
-            pdcps,
-            marks,
-            starts,
-            ends,
-            words,
-            s.opened,
-            l,
-            out,
-            next.at,
-        );
+        let p = replaying::play_master(call, &frame, numbers, pdcps, marks, starts, ends, words, s.opened, l, out, next.at);
         let after = p.ledger;
         s.at = p.at;
         s.opened = p.opened;
@@ -310,11 +289,6 @@ fn play_all(block: &mut [u8], line: &mut [u8; 2044], out: &mut [u8])
 // A buffer for a frame to accept.
 fn empty_frame() -> [u8; 1018] {
     [0; 1018]
-}
-
-// A buffer that is lent to a status.
-fn empty_buffer() -> [u8; 2048] {
-    [0; 2048]
 }
 
 // A buffer for an unfinished line.

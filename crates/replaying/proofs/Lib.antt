@@ -1,2 +1,4 @@
-pub mod Fitting
+pub mod Steps
 pub mod Opening
+pub mod Reporting
+pub mod Arms

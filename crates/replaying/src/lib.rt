@@ -1,33 +1,29 @@
-// Calls played on both ends of one bearer, and the text of each answer laid in an output. The secondary's end is the
+// Calls played on both ends of one bearer, and the line of each answer laid in an output. The secondary's end is the
 // keeper's lent arrays, the master's a ledger by value.
 ghost use mathlib.Core.Path.{_≡_};
-ghost use Prim.Native.Nat.{_+_, _≤_, _<_, min};
+ghost use mathlib.Core.Bool.{Bool, true, false, not};
+ghost use mathlib.Core.List.{List};
+ghost use Prim.Native.Nat.{ℕ, _+_, _≤_, min};
 ghost use lib.Dec.{leb};
-ghost use lib.ListN.{length, take};
-ghost use Rattle.replaying.specs.Playing.{takesLedger, endsIn, openBoth};
-ghost use Rattle.bearer.specs.Keeper.{openKeeper};
-ghost use Rattle.bearer.specs.Ledger.{openLedger};
+ghost use lib.ListN.{length, replicate};
+ghost use Rattle.layout.specs.Basics.{_and_};
+ghost use Rattle.writer.specs.Laid.{Room};
+ghost use Rattle.bearer.specs.Keeper.{Keeper};
+ghost use Rattle.keeper.specs.View.{countedAs, confirmedAs};
+ghost use Rattle.ledger.specs.View.{sentAs, acceptedAs, takenAs, ledgerIn};
+ghost use Rattle.answering.specs.Answers.{mostText};
+ghost use Rattle.replaying.specs.Playing.{endsIn, answerBy, okAnswer, freedAnswer, takenAnswer, playOn, needsOpen, play, takesLedger, playInto};
+ghost use Rattle.replaying.specs.Plays.{Plays};
+use answering::Answer;
 use calling::Call;
 use keeper::Confirmed;
 use keeper::Counted;
 use ledger::Accepted;
-use ledger::Entry;
-use ledger::Fate;
 use ledger::Ledger;
 use ledger::Sent;
 use ledger::Taken;
 
-const LINE_FEED: u8 = b'\n';
-
-const TAB: u8 = b'\t';
-
-const COMMA: u8 = b',';
-
-const DASH: u8 = b'-';
-
-const COLON: u8 = b':';
-
-const MOST_TEXT: usize = 18432; // no answer is longer
+const MOST_ROOM: usize = 2048; // of a status
 
 // What a call leaves beside the keeper's arrays: whether the ends are open, the master's end, and the place behind the answer.
 pub struct Played {
@@ -36,7 +32,125 @@ pub struct Played {
     pub ledger: Ledger,
 }
 
-// ---- texts: each is laid at a place, and the place behind it is the answer
+// ---- answers in one form
+
+fn counted(answer: Counted) -> Answer
+    ensures { λ r. ⌜ ((k : Keeper) → r ≡ answerBy Answer.Lost (countedAs answer k .answer)) ⌝ }
+{
+    match answer {
+        Counted::Lost(n) => Answer::Lost(n),
+        Counted::Refused(n) => Answer::Refused(n),
+    }
+}
+
+fn confirmed(answer: Confirmed) -> Answer
+    ensures { λ r. ⌜ ((k : Keeper) → r ≡ answerBy okAnswer (confirmedAs answer k .answer)) ⌝ }
+{
+    match answer {
+        Confirmed::Done => Answer::Ok,
+        Confirmed::Refused(n) => Answer::Refused(n),
+    }
+}
+
+fn sent(answer: Sent) -> Answer
+    ensures { λ r. ⌜ r ≡ answerBy Answer.Sent (sentAs answer) ⌝ }
+{
+    match answer {
+        Sent::Number(n) => Answer::Sent(n),
+        Sent::Refused(n) => Answer::Refused(n),
+    }
+}
+
+fn accepted(answer: Accepted) -> Answer
+    ensures { λ r. ⌜ r ≡ answerBy freedAnswer (acceptedAs answer) ⌝ }
+{
+    match answer {
+        Accepted::Counts { freed, lost, last } => Answer::Freed {
+            freed: freed,
+            lost: lost,
+            last: last,
+        },
+        Accepted::Refused(n) => Answer::Refused(n),
+    }
+}
+
+fn taken(answer: Taken) -> Answer
+    ensures { λ r. ⌜ r ≡ answerBy takenAnswer (takenAs answer) ⌝ }
+{
+    match answer {
+        Taken::Packet { number, pdcp } => Answer::Taken {
+            number: number,
+            pdcp: pdcp,
+        },
+        Taken::Refused(n) => Answer::Refused(n),
+    }
+}
+
+// ---- calls on the secondary, which is open
+
+fn play_arrive(
+    number: u32,
+    pdcp: u32,
+    numbers: &mut [u32; 512],
+    pdcps: &mut [u32; 512],
+    marks: &mut [u32; 512],
+    starts: &mut [u32; 256],
+    ends: &mut [u32; 256],
+    words: &mut [u32; 6],
+    out: &mut [u8],
+    at: usize,
+) -> usize
+    requires { ⌜ Room (now out) at mostText ⌝ }
+    ensures { λ r. ⌜ ((b : Bool) (l : Ledger) (frame : List ℕ) → Plays (playOn (endsIn b l (now (numbers .entry)) (now (pdcps .entry)) (now (marks .entry)) (now (starts .entry)) (now (ends .entry)) (now (words .entry))) (Call.Arrive number pdcp) frame)
+        (endsIn b l (now (numbers .exit)) (now (pdcps .exit)) (now (marks .exit)) (now (starts .exit)) (now (ends .exit)) (now (words .exit))) (now (out .entry)) at r (now (out .exit))) ⌝ }
+{
+    let answer = keeper::arrive(numbers, pdcps, marks, starts, ends, words, number, pdcp);
+    answering::lay_answer(counted(answer), out, at)
+}
+
+fn play_expire(
+    numbers: &mut [u32; 512],
+    pdcps: &mut [u32; 512],
+    marks: &mut [u32; 512],
+    starts: &mut [u32; 256],
+    ends: &mut [u32; 256],
+    words: &mut [u32; 6],
+    out: &mut [u8],
+    at: usize,
+) -> usize
+    requires { ⌜ Room (now out) at mostText ⌝ }
+    ensures { λ r. ⌜ ((b : Bool) (l : Ledger) (frame : List ℕ) → Plays (playOn (endsIn b l (now (numbers .entry)) (now (pdcps .entry)) (now (marks .entry)) (now (starts .entry)) (now (ends .entry)) (now (words .entry))) Call.Expire frame)
+        (endsIn b l (now (numbers .exit)) (now (pdcps .exit)) (now (marks .exit)) (now (starts .exit)) (now (ends .exit)) (now (words .exit))) (now (out .entry)) at r (now (out .exit))) ⌝ }
+{
+    let answer = keeper::expire(numbers, pdcps, marks, starts, ends, words);
+    answering::lay_answer(counted(answer), out, at)
+}
+
+fn play_confirm(
+    number: u32,
+    numbers: &mut [u32; 512],
+    pdcps: &mut [u32; 512],
+    marks: &mut [u32; 512],
+    starts: &mut [u32; 256],
+    ends: &mut [u32; 256],
+    words: &mut [u32; 6],
+    out: &mut [u8],
+    at: usize,
+) -> usize
+    requires { ⌜ Room (now out) at mostText ⌝ }
+    ensures { λ r. ⌜ ((b : Bool) (l : Ledger) (frame : List ℕ) → Plays (playOn (endsIn b l (now (numbers .entry)) (now (pdcps .entry)) (now (marks .entry)) (now (starts .entry)) (now (ends .entry)) (now (words .entry))) (Call.Confirm number) frame)
+        (endsIn b l (now (numbers .exit)) (now (pdcps .exit)) (now (marks .exit)) (now (starts .exit)) (now (ends .exit)) (now (words .exit))) (now (out .entry)) at r (now (out .exit))) ⌝ }
+{
+    let answer = keeper::confirm(numbers, pdcps, marks, starts, ends, words, number);
+    answering::lay_answer(confirmed(answer), out, at)
+}
+
+// A buffer that is lent to a status.
+fn empty_buffer() -> [u8; 2048]
+    ensures { λ r. ⌜ r ≡ replicate 2048 0 ⌝ }
+{
+    [0; 2048]
+}
 
 // The lesser of two counts.
 fn least(a: usize, b: usize) -> usize
@@ -45,348 +159,28 @@ fn least(a: usize, b: usize) -> usize
     if a < b { a } else { b }
 }
 
-// A text as it stands.
-fn put(text: &[u8], out: &mut [u8], at: usize) -> usize
-    requires { ⌜ at ≤ length (now out) ⌝ }
-    ensures { λ r. ⌜ r ≤ length (now (out .entry)) ⌝ }
-{
-    listing::lay_text(text, out, at)
-}
-
-// A number in decimal.
-fn put_number(n: u32, out: &mut [u8], at: usize) -> usize
-    requires { ⌜ at ≤ length (now out) ⌝ }
-    ensures { λ r. ⌜ r ≤ length (now (out .entry)) ⌝ }
-{
-    listing::lay_decimal(n, out, at)
-}
-
-// One character.
-fn put_octet(c: u8, out: &mut [u8], at: usize) -> usize
-    requires { ⌜ at ≤ length (now out) ⌝ }
-    ensures { λ r. ⌜ r ≤ length (now (out .entry)) ⌝ }
-{
-    if out.len() <= at {
-        return at;
-    }
-    out[at] = c;
-    at + 1
-}
-
-// A number with a mark before it.
-fn put_behind(mark: u8, n: u32, out: &mut [u8], at: usize) -> usize
-    requires { ⌜ at ≤ length (now out) ⌝ }
-    ensures { λ r. ⌜ r ≤ length (now (out .entry)) ⌝ }
-{
-    let at = put_octet(mark, out, at);
-    put_number(n, out, at)
-}
-
-// A word and a number behind it.
-fn put_named(name: &[u8], n: u32, out: &mut [u8], at: usize) -> usize
-    requires { ⌜ at ≤ length (now out) ⌝ }
-    ensures { λ r. ⌜ r ≤ length (now (out .entry)) ⌝ }
-{
-    let at = put(name, out, at);
-    put_behind(TAB, n, out, at)
-}
-
-// A refusal.
-fn put_refused(n: u32, out: &mut [u8], at: usize) -> usize
-    requires { ⌜ at ≤ length (now out) ⌝ }
-    ensures { λ r. ⌜ r ≤ length (now (out .entry)) ⌝ }
-{
-    put_named(b"refused", n, out, at)
-}
-
-// Yes or no as a number.
-fn flag(yes: bool) -> u32 {
-    if yes { 1 } else { 0 }
-}
-
-// The digit of a number below 16.
-fn hex_digit(n: u8) -> u8
-    requires { ⌜ n < 16 ⌝ }
-{
-    if n < 10 { b'0' + n } else { b'a' + (n - 10) }
-}
-
-// An octet in lower-case hexadecimal.
-fn put_hex(octet: u8, out: &mut [u8], at: usize) -> usize
-    requires { ⌜ at ≤ length (now out) ⌝ }
-    ensures { λ r. ⌜ r ≤ length (now (out .entry)) ⌝ }
-{
-    let at = put_octet(hex_digit(octet / 16), out, at);
-    put_octet(hex_digit(octet % 16), out, at)
-}
-
-// A frame's octets.
-fn put_octets(octets: &[u8], out: &mut [u8], at: usize) -> usize
-    requires { ⌜ at ≤ length (now out) ⌝ }
-    ensures { λ r. ⌜ r ≤ length (now (out .entry)) ⌝ }
-{
-    let mut at = at;
-    let mut i = 0;
-    while i < octets.len() {
-        at = put_hex(octets[i], out, at);
-        i += 1;
-    }
-    at
-}
-
-// A run: start-end, with a mark before it.
-fn put_run(mark: u8, start: u32, end: u32, out: &mut [u8], at: usize) -> usize
-    requires { ⌜ at ≤ length (now out) ⌝ }
-    ensures { λ r. ⌜ r ≤ length (now (out .entry)) ⌝ }
-{
-    let at = put_behind(mark, start, out, at);
-    put_behind(DASH, end, out, at)
-}
-
-// The field of the listed runs, with a tab before it.
-fn put_runs(starts: &[u32; 256], ends: &[u32; 256], n: usize, out: &mut [u8], at: usize) -> usize
-    requires { ⌜ (n ≤ 256) × (at ≤ length (now out)) ⌝ }
-    ensures { λ r. ⌜ r ≤ length (now (out .entry)) ⌝ }
-{
-    if n == 0 {
-        return put(b"\tnone", out, at);
-    }
-    let mut mark = TAB;
-    let mut at = at;
-    let mut i = 0;
-    while i < n {
-        at = put_run(mark, starts[i], ends[i], out, at);
-        mark = COMMA;
-        i += 1;
-    }
-    at
-}
-
-// A packet: number:pdcp:kind, with a mark before it.
-fn put_packet(mark: u8, number: u32, pdcp: u32, kind: u8, out: &mut [u8], at: usize) -> usize
-    requires { ⌜ at ≤ length (now out) ⌝ }
-    ensures { λ r. ⌜ r ≤ length (now (out .entry)) ⌝ }
-{
-    let at = put_behind(mark, number, out, at);
-    let at = put_behind(COLON, pdcp, out, at);
-    let at = put_octet(COLON, out, at);
-    put_octet(kind, out, at)
-}
-
-// A record's kind: confirmed or not.
-fn kind_of_mark(mark: u32) -> u8 {
-    if mark == 0 { b'0' } else { b'1' }
-}
-
-// The field of the records, with a tab before it.
-fn put_records(
-    numbers: &[u32; 512],
-    pdcps: &[u32; 512],
-    marks: &[u32; 512],
-    n: usize,
-    out: &mut [u8],
-    at: usize,
-) -> usize
-    requires { ⌜ (n ≤ 512) × (at ≤ length (now out)) ⌝ }
-    ensures { λ r. ⌜ r ≤ length (now (out .entry)) ⌝ }
-{
-    if n == 0 {
-        return put(b"\tnone", out, at);
-    }
-    let mut mark = TAB;
-    let mut at = at;
-    let mut i = 0;
-    while i < n {
-        at = put_packet(mark, numbers[i], pdcps[i], kind_of_mark(marks[i]), out, at);
-        mark = COMMA;
-        i += 1;
-    }
-    at
-}
-
-// An entry's kind: waiting or lost.
-fn kind_of_fate(fate: Fate) -> u8 {
-    match fate {
-        Fate::Waiting => b'w',
-        Fate::Lost => b'l',
-    }
-}
-
-// An entry, with a mark before it.
-fn put_entry(mark: u8, e: Entry, out: &mut [u8], at: usize) -> usize
-    requires { ⌜ at ≤ length (now out) ⌝ }
-    ensures { λ r. ⌜ r ≤ length (now (out .entry)) ⌝ }
-{
-    let fate = e.fate;
-    put_packet(mark, e.number, e.pdcp, kind_of_fate(fate), out, at)
-}
-
-// The field of the entries, with a tab before it.
-fn put_entries(entries: [Entry; 512], n: usize, out: &mut [u8], at: usize) -> usize
-    requires { ⌜ (n ≤ 512) × (at ≤ length (now out)) ⌝ }
-    ensures { λ r. ⌜ r ≤ length (now (out .entry)) ⌝ }
-{
-    if n == 0 {
-        return put(b"\tnone", out, at);
-    }
-    let mut mark = TAB;
-    let mut at = at;
-    let mut i = 0;
-    while i < n {
-        at = put_entry(mark, entries[i], out, at);
-        mark = COMMA;
-        i += 1;
-    }
-    at
-}
-
-// ---- answers
-
-// The answer to a confirm.
-fn put_confirmed(answer: Confirmed, out: &mut [u8], at: usize) -> usize
-    requires { ⌜ at ≤ length (now out) ⌝ }
-    ensures { λ r. ⌜ r ≤ length (now (out .entry)) ⌝ }
-{
-    match answer {
-        Confirmed::Done => put(b"ok", out, at),
-        Confirmed::Refused(n) => put_refused(n, out, at),
-    }
-}
-
-// The answer to an arrival or an expiry.
-fn put_counted(answer: Counted, out: &mut [u8], at: usize) -> usize
-    requires { ⌜ at ≤ length (now out) ⌝ }
-    ensures { λ r. ⌜ r ≤ length (now (out .entry)) ⌝ }
-{
-    match answer {
-        Counted::Lost(n) => put_named(b"lost", n, out, at),
-        Counted::Refused(n) => put_refused(n, out, at),
-    }
-}
-
-// The answer to a status, whose frame stands at the front of a buffer.
-fn put_reported(answer: keeper::Frame, buffer: &[u8], out: &mut [u8], at: usize) -> usize
-    requires { ⌜ at ≤ length (now out) ⌝ }
-    ensures { λ r. ⌜ r ≤ length (now (out .entry)) ⌝ }
-{
-    match answer {
-        keeper::Frame::Octets(n) => {
-            let at = put(b"frame\t", out, at);
-            put_octets(calling::first(buffer, n), out, at)
-        }
-        keeper::Frame::Refused(n) => put_refused(n, out, at),
-    }
-}
-
-// The answer to a send.
-fn put_sent(answer: Sent, out: &mut [u8], at: usize) -> usize
-    requires { ⌜ at ≤ length (now out) ⌝ }
-    ensures { λ r. ⌜ r ≤ length (now (out .entry)) ⌝ }
-{
-    match answer {
-        Sent::Number(n) => put_named(b"sent", n, out, at),
-        Sent::Refused(n) => put_refused(n, out, at),
-    }
-}
-
-// The answer to a status that was accepted.
-fn put_accepted(answer: Accepted, out: &mut [u8], at: usize) -> usize
-    requires { ⌜ at ≤ length (now out) ⌝ }
-    ensures { λ r. ⌜ r ≤ length (now (out .entry)) ⌝ }
-{
-    match answer {
-        Accepted::Counts { freed, lost, last } => {
-            let at = put_named(b"freed", freed, out, at);
-            let at = put_named(b"\tlost", lost, out, at);
-            put_named(b"\tfinal", flag(last), out, at)
-        }
-        Accepted::Refused(n) => put_refused(n, out, at),
-    }
-}
-
-// The answer to a take.
-fn put_taken(answer: Taken, out: &mut [u8], at: usize) -> usize
-    requires { ⌜ at ≤ length (now out) ⌝ }
-    ensures { λ r. ⌜ r ≤ length (now (out .entry)) ⌝ }
-{
-    match answer {
-        Taken::Packet { number, pdcp } => {
-            let at = put_named(b"taken", number, out, at);
-            put_behind(TAB, pdcp, out, at)
-        }
-        Taken::Refused(n) => put_refused(n, out, at),
-    }
-}
-
-// A word as a count: one past the end counts as full.
-fn count_in(word: u32, most: usize) -> usize
-    ensures { λ r. ⌜ r ≡ min word most ⌝ }
-{
-    least(word as usize, most)
-}
-
-// The secondary as it stands.
-fn put_keeper(
-    numbers: &[u32; 512],
-    pdcps: &[u32; 512],
-    marks: &[u32; 512],
-    starts: &[u32; 256],
-    ends: &[u32; 256],
-    words: &[u32; 6],
-    out: &mut [u8],
-    at: usize,
-) -> usize
-    requires { ⌜ at ≤ length (now out) ⌝ }
-    ensures { λ r. ⌜ r ≤ length (now (out .entry)) ⌝ }
-{
-    let runs = count_in(words[4], 256);
-    let records = count_in(words[5], 512);
-    let at = put_named(b"keeper", words[1], out, at);
-    let at = put_behind(TAB, words[2], out, at);
-    let at = put_behind(TAB, flag(words[3] != 0), out, at);
-    let at = put_runs(starts, ends, runs, out, at);
-    put_records(numbers, pdcps, marks, records, out, at)
-}
-
-// The master as it stands.
-fn put_ledger(l: Ledger, out: &mut [u8], at: usize) -> usize
-    requires { ⌜ at ≤ length (now out) ⌝ }
-    ensures { λ r. ⌜ r ≤ length (now (out .entry)) ⌝ }
-{
-    let n = least(l.count, 512);
-    let entries = l.entries;
-    let at = put_named(b"ledger", l.next, out, at);
-    let at = put_behind(TAB, l.highest, out, at);
-    let at = put_behind(TAB, l.sent, out, at);
-    let at = put_behind(TAB, flag(l.closed), out, at);
-    let at = put_behind(TAB, l.desired, out, at);
-    let at = put_behind(TAB, l.minimum, out, at);
-    put_entries(entries, n, out, at)
-}
-
-// ---- calls
-
-// A status, written to the front of a buffer of which the room is lent.
-fn report(
+// A status, written into so much room.
+fn play_status(
+    desired: u32,
+    minimum: u32,
+    last: bool,
+    room: usize,
     numbers: &mut [u32; 512],
     pdcps: &mut [u32; 512],
     marks: &mut [u32; 512],
     starts: &mut [u32; 256],
     ends: &mut [u32; 256],
     words: &mut [u32; 6],
-    desired: u32,
-    minimum: u32,
-    last: bool,
-    room: usize,
-    buffer: &mut [u8],
     out: &mut [u8],
     at: usize,
 ) -> usize
-    requires { ⌜ at ≤ length (now out) ⌝ }
-    ensures { λ r. ⌜ r ≤ length (now (out .entry)) ⌝ }
+    requires { ⌜ Room (now out) at mostText ⌝ }
+    ensures { λ r. ⌜ ((b : Bool) (l : Ledger) (frame : List ℕ) → Plays (playOn (endsIn b l (now (numbers .entry)) (now (pdcps .entry)) (now (marks .entry)) (now (starts .entry)) (now (ends .entry)) (now (words .entry))) (Call.Status desired minimum last room) frame)
+        (endsIn b l (now (numbers .exit)) (now (pdcps .exit)) (now (marks .exit)) (now (starts .exit)) (now (ends .exit)) (now (words .exit))) (now (out .entry)) at r (now (out .exit))) ⌝ }
 {
-    let room = least(room, buffer.len());
-    let answer = keeper::status(
+    let mut buffer = empty_buffer();
+    let room = least(room, MOST_ROOM);
+    match keeper::status(
         numbers,
         pdcps,
         marks,
@@ -397,11 +191,13 @@ fn report(
         minimum,
         last,
         &mut buffer[..room],
-    );
-    put_reported(answer, buffer, out, at)
+    ) {
+        keeper::Frame::Octets(n) => answering::lay_frame(&buffer, n, out, at),
+        keeper::Frame::Refused(n) => answering::lay_answer(Answer::Refused(n), out, at),
+    }
 }
 
-// A call on the secondary; none other is given here.
+// A call that doesn't take the ledger, on ends that are open; none other is given here.
 fn play_secondary(
     call: Call,
     numbers: &mut [u32; 512],
@@ -410,90 +206,74 @@ fn play_secondary(
     starts: &mut [u32; 256],
     ends: &mut [u32; 256],
     words: &mut [u32; 6],
-    buffer: &mut [u8],
     out: &mut [u8],
     at: usize,
 ) -> usize
-    requires { ⌜ at ≤ length (now out) ⌝ }
-    ensures { λ r. ⌜ r ≤ length (now (out .entry)) ⌝ }
+    requires { ⌜ takesLedger call true ≡ false ⌝ }
+    requires { ⌜ Room (now out) at mostText ⌝ }
+    ensures { λ r. ⌜ ((b : Bool) (l : Ledger) (frame : List ℕ) → Plays (playOn (endsIn b l (now (numbers .entry)) (now (pdcps .entry)) (now (marks .entry)) (now (starts .entry)) (now (ends .entry)) (now (words .entry))) call frame)
+        (endsIn b l (now (numbers .exit)) (now (pdcps .exit)) (now (marks .exit)) (now (starts .exit)) (now (ends .exit)) (now (words .exit))) (now (out .entry)) at r (now (out .exit))) ⌝ }
 {
     match call {
-        Call::Arrive { number, pdcp } => {
-            let answer = keeper::arrive(numbers, pdcps, marks, starts, ends, words, number, pdcp);
-            put_counted(answer, out, at)
-        }
-        Call::Expire => put_counted(
-            keeper::expire(numbers, pdcps, marks, starts, ends, words),
-            out,
-            at,
-        ),
-        Call::Confirm(n) => put_confirmed(
-            keeper::confirm(numbers, pdcps, marks, starts, ends, words, n),
-            out,
-            at,
-        ),
+        Call::Arrive { number, pdcp } => play_arrive(number, pdcp, numbers, pdcps, marks, starts, ends, words, out, at),
+        Call::Expire => play_expire(numbers, pdcps, marks, starts, ends, words, out, at),
+        Call::Confirm(n) => play_confirm(n, numbers, pdcps, marks, starts, ends, words, out, at),
         Call::Status {
             desired,
             minimum,
             last,
             room,
-        } => report(
-            numbers,
-            pdcps,
-            marks,
-            starts,
-            ends,
-            words,
-            desired,
-            minimum,
-            last,
-            room,
-            buffer,
-            out,
-            at,
+        } => play_status(
+            desired, minimum, last, room, numbers, pdcps, marks, starts, ends, words, out, at,
         ),
-        Call::Keeper => put_keeper(numbers, pdcps, marks, starts, ends, words, out, at),
+        Call::Keeper => answering::lay_keeper(numbers, pdcps, marks, starts, ends, words, out, at),
+        Call::Unreadable => answering::lay_answer(Answer::Unreadable, out, at),
         _ => at,
     }
 }
 
+// ---- calls on the master, which is open
+
 fn play_send(l: Ledger, pdcp: u32, out: &mut [u8], at: usize) -> Played
-    requires { ⌜ at ≤ length (now out) ⌝ }
-    ensures { λ r. ⌜ r .at ≤ length (now (out .entry)) ⌝ }
+    requires { ⌜ Room (now out) at mostText ⌝ }
+    ensures { λ r. ⌜ ((k : Keeper) (frame : List ℕ) → Plays (playOn (record { opened = true; keeper = k; ledger = ledgerIn l }) (Call.Send pdcp) frame)
+        (record { opened = r .opened; keeper = k; ledger = ledgerIn (r .ledger) }) (now (out .entry)) at (r .at) (now (out .exit))) ⌝ }
 {
     let s = ledger::send(l, pdcp);
     let answer = s.answer;
     let after = s.ledger;
     Played {
-        at: put_sent(answer, out, at),
+        at: answering::lay_answer(sent(answer), out, at),
         opened: true,
         ledger: after,
     }
 }
 
-fn play_accept(l: Ledger, frame: &[u8], out: &mut [u8], at: usize) -> Played
-    requires { ⌜ at ≤ length (now out) ⌝ }
-    ensures { λ r. ⌜ r .at ≤ length (now (out .entry)) ⌝ }
+fn play_accept(l: Ledger, frame: &[u8], n: usize, out: &mut [u8], at: usize) -> Played
+    requires { ⌜ Room (now out) at mostText ⌝ }
+    ensures { λ r. ⌜ ((k : Keeper) → Plays (playOn (record { opened = true; keeper = k; ledger = ledgerIn l }) (Call.Accept n) (now (frame .entry)))
+        (record { opened = r .opened; keeper = k; ledger = ledgerIn (r .ledger) }) (now (out .entry)) at (r .at) (now (out .exit))) ⌝ }
 {
-    let a = ledger::accept(l, frame);
+    let a = ledger::accept(l, calling::first(frame, n));
     let answer = a.answer;
     let after = a.ledger;
     Played {
-        at: put_accepted(answer, out, at),
+        at: answering::lay_answer(accepted(answer), out, at),
         opened: true,
         ledger: after,
     }
 }
 
 fn play_take(l: Ledger, out: &mut [u8], at: usize) -> Played
-    requires { ⌜ at ≤ length (now out) ⌝ }
-    ensures { λ r. ⌜ r .at ≤ length (now (out .entry)) ⌝ }
+    requires { ⌜ Room (now out) at mostText ⌝ }
+    ensures { λ r. ⌜ ((k : Keeper) (frame : List ℕ) → Plays (playOn (record { opened = true; keeper = k; ledger = ledgerIn l }) Call.Take frame)
+        (record { opened = r .opened; keeper = k; ledger = ledgerIn (r .ledger) }) (now (out .entry)) at (r .at) (now (out .exit))) ⌝ }
 {
     let t = ledger::take(l);
     let answer = t.answer;
     let after = t.ledger;
     Played {
-        at: put_taken(answer, out, at),
+        at: answering::lay_answer(taken(answer), out, at),
         opened: true,
         ledger: after,
     }
@@ -515,24 +295,13 @@ fn play_open(
     out: &mut [u8],
     at: usize,
 ) -> Played
-    requires { ⌜ at ≤ length (now out) ⌝ }
-    ensures { λ r. ⌜ r .at ≤ length (now (out .entry)) ⌝ }
-    ensures { λ r. ⌜ endsIn (r .opened) (r .ledger) (now (numbers .exit)) (now (pdcps .exit)) (now (marks .exit)) (now (starts .exit)) (now (ends .exit)) (now (words .exit))
-        ≡ openBoth (endsIn former l (now (numbers .entry)) (now (pdcps .entry)) (now (marks .entry)) (now (starts .entry)) (now (ends .entry)) (now (words .entry))) (openKeeper bits first pdcp) (openLedger bits first pdcp) ⌝ }
+    requires { ⌜ Room (now out) at mostText ⌝ }
+    ensures { λ r. ⌜ ((frame : List ℕ) → Plays (playOn (endsIn former l (now (numbers .entry)) (now (pdcps .entry)) (now (marks .entry)) (now (starts .entry)) (now (ends .entry)) (now (words .entry))) (Call.Open bits first pdcp) frame)
+        (endsIn (r .opened) (r .ledger) (now (numbers .exit)) (now (pdcps .exit)) (now (marks .exit)) (now (starts .exit)) (now (ends .exit)) (now (words .exit))) (now (out .entry)) at (r .at) (now (out .exit))) ⌝ }
 {
-    match keeper::open(
-        numbers,
-        pdcps,
-        marks,
-        starts,
-        ends,
-        words,
-        bits,
-        first,
-        pdcp,
-    ) {
+    match keeper::open(numbers, pdcps, marks, starts, ends, words, bits, first, pdcp) {
         keeper::Opened::Refused(n) => Played {
-            at: put_refused(n, out, at),
+            at: answering::lay_answer(Answer::Refused(n), out, at),
             opened: former,
             ledger: l,
         },
@@ -540,7 +309,7 @@ fn play_open(
             let o = ledger::open(bits, first, pdcp);
             let fresh = o.ledger;
             Played {
-                at: put(b"ok", out, at),
+                at: answering::lay_answer(Answer::Ok, out, at),
                 opened: true,
                 ledger: fresh,
             }
@@ -548,11 +317,21 @@ fn play_open(
     }
 }
 
-// Whether an output of that size has room for any answer at a place.
-pub fn has_room(size: usize, at: usize) -> bool
-    ensures { λ r. ⌜ r ≡ leb (at + 18432) size ⌝ }
+// ---- which function plays a call
+
+// Whether a call is made on ends that are open.
+fn needs_open(call: Call) -> bool
+    ensures { λ r. ⌜ r ≡ needsOpen call ⌝ }
 {
-    listing::fits(size, at, MOST_TEXT)
+    match call {
+        Call::Open {
+            length: _,
+            first: _,
+            pdcp: _,
+        } => false,
+        Call::Unreadable => false,
+        _ => true,
+    }
 }
 
 // Whether a call takes the ledger: an open does, and on ends that are open the calls on the master.
@@ -583,7 +362,17 @@ pub fn takes_ledger(call: Call, opened: bool) -> bool
     }
 }
 
-// A call on the master, which is open, or an open of both ends.
+// Whether a call is played: it is the function's own, and an output of that size has room for any line at a place.
+fn may_play(own: bool, size: usize, at: usize) -> bool
+    ensures { λ r. ⌜ r ≡ (own and leb (at + mostText) size) ⌝ }
+{
+    if own {
+        return answering::has_room(size, at);
+    }
+    false
+}
+
+// A call on the master, which is open, or an open of both ends; none other is given here.
 fn play_ledger(
     call: Call,
     frame: &[u8],
@@ -598,8 +387,10 @@ fn play_ledger(
     out: &mut [u8],
     at: usize,
 ) -> Played
-    requires { ⌜ at ≤ length (now out) ⌝ }
-    ensures { λ r. ⌜ r .at ≤ length (now (out .entry)) ⌝ }
+    requires { ⌜ takesLedger call opened ≡ true ⌝ }
+    requires { ⌜ Room (now out) at mostText ⌝ }
+    ensures { λ r. ⌜ Plays (playOn (endsIn opened l (now (numbers .entry)) (now (pdcps .entry)) (now (marks .entry)) (now (starts .entry)) (now (ends .entry)) (now (words .entry))) call (now (frame .entry)))
+        (endsIn (r .opened) (r .ledger) (now (numbers .exit)) (now (pdcps .exit)) (now (marks .exit)) (now (starts .exit)) (now (ends .exit)) (now (words .exit))) (now (out .entry)) at (r .at) (now (out .exit)) ⌝ }
 {
     match call {
         Call::Open {
@@ -607,32 +398,20 @@ fn play_ledger(
             first,
             pdcp,
         } => play_open(
-            length,
-            first,
-            pdcp,
-            numbers,
-            pdcps,
-            marks,
-            starts,
-            ends,
-            words,
-            opened,
-            l,
-            out,
-            at,
+            length, first, pdcp, numbers, pdcps, marks, starts, ends, words, opened, l, out, at,
         ),
         Call::Send(pdcp) => play_send(l, pdcp, out, at),
-        Call::Accept(n) => play_accept(l, calling::first(frame, n), out, at),
+        Call::Accept(n) => play_accept(l, frame, n, out, at),
         Call::Take => play_take(l, out, at),
         _ => Played {
-            at: put_ledger(l, out, at),
+            at: answering::lay_ledger(l, out, at),
             opened: opened,
             ledger: l,
         },
     }
 }
 
-// A call that takes the ledger, and the line of its answer. Without room for any answer nothing changes.
+// A call that takes the ledger, and the line of its answer. For another call, or without room for any line, nothing changes.
 pub fn play_master(
     call: Call,
     frame: &[u8; 1018],
@@ -647,31 +426,30 @@ pub fn play_master(
     out: &mut [u8],
     at: usize,
 ) -> Played
+    ensures { λ r. ⌜ record { ends = endsIn (r .opened) (r .ledger) (now (numbers .exit)) (now (pdcps .exit)) (now (marks .exit)) (now (starts .exit)) (now (ends .exit)) (now (words .exit)); out = now (out .exit); at = r .at }
+        ≡ playInto (takesLedger call opened) (endsIn opened l (now (numbers .entry)) (now (pdcps .entry)) (now (marks .entry)) (now (starts .entry)) (now (ends .entry)) (now (words .entry))) call (now (frame .entry)) (now (out .entry)) at ⌝ }
     ensures { λ r. ⌜ (at ≤ length (now (out .entry)) → r .at ≤ length (now (out .entry))) ⌝ }
 {
-    if !has_room(out.len(), at) {
+    if !may_play(takes_ledger(call, opened), out.len(), at) {
         return Played {
             at: at,
             opened: opened,
             ledger: l,
         };
     }
-    let mut p = play_ledger(
-        call,
-        frame,
-        numbers,
-        pdcps,
-        marks,
-        starts,
-        ends,
-        words,
-        opened,
-        l,
-        out,
-        at,
-    );
-    p.at = put_octet(LINE_FEED, out, p.at);
-    p
+    play_ledger(
+        call, frame, numbers, pdcps, marks, starts, ends, words, opened, l, out, at,
+    )
+}
+
+// Whether a call finds the ends not open that it is made on.
+fn lacks_open(call: Call, opened: bool) -> bool
+    ensures { λ r. ⌜ r ≡ (needsOpen call and not opened) ⌝ }
+{
+    if opened {
+        return false;
+    }
+    needs_open(call)
 }
 
 // A call on the secondary, or none that can be made.
@@ -684,34 +462,21 @@ fn play_other(
     ends: &mut [u32; 256],
     words: &mut [u32; 6],
     opened: bool,
-    buffer: &mut [u8],
     out: &mut [u8],
     at: usize,
 ) -> usize
-    requires { ⌜ at ≤ length (now out) ⌝ }
-    ensures { λ r. ⌜ r ≤ length (now (out .entry)) ⌝ }
+    requires { ⌜ takesLedger call opened ≡ false ⌝ }
+    requires { ⌜ Room (now out) at mostText ⌝ }
+    ensures { λ r. ⌜ ((l : Ledger) (frame : List ℕ) → Plays (play (endsIn opened l (now (numbers .entry)) (now (pdcps .entry)) (now (marks .entry)) (now (starts .entry)) (now (ends .entry)) (now (words .entry))) call frame)
+        (endsIn opened l (now (numbers .exit)) (now (pdcps .exit)) (now (marks .exit)) (now (starts .exit)) (now (ends .exit)) (now (words .exit))) (now (out .entry)) at r (now (out .exit))) ⌝ }
 {
-    if let Call::Unreadable = call {
-        return put(b"unreadable", out, at);
+    if lacks_open(call, opened) {
+        return answering::lay_answer(Answer::Unopened, out, at);
     }
-    if !opened {
-        return put(b"unopened", out, at);
-    }
-    play_secondary(
-        call,
-        numbers,
-        pdcps,
-        marks,
-        starts,
-        ends,
-        words,
-        buffer,
-        out,
-        at,
-    )
+    play_secondary(call, numbers, pdcps, marks, starts, ends, words, out, at)
 }
 
-// A call that doesn't take the ledger, and the line of its answer. Without room for any answer nothing changes.
+// A call that doesn't take the ledger, and the line of its answer. For another call, or without room for any line, nothing changes.
 pub fn play_keeper(
     call: Call,
     numbers: &mut [u32; 512],
@@ -721,27 +486,15 @@ pub fn play_keeper(
     ends: &mut [u32; 256],
     words: &mut [u32; 6],
     opened: bool,
-    buffer: &mut [u8; 2048],
     out: &mut [u8],
     at: usize,
 ) -> usize
-    ensures { λ r. ⌜ (at ≤ length (now (out .entry)) → r ≤ length (now (out .entry))) ⌝ }
+    ensures { λ r. ⌜ ((l : Ledger) (frame : List ℕ) → (record { ends = endsIn opened l (now (numbers .exit)) (now (pdcps .exit)) (now (marks .exit)) (now (starts .exit)) (now (ends .exit)) (now (words .exit)); out = now (out .exit); at = r }
+        ≡ playInto (not (takesLedger call opened)) (endsIn opened l (now (numbers .entry)) (now (pdcps .entry)) (now (marks .entry)) (now (starts .entry)) (now (ends .entry)) (now (words .entry))) call frame (now (out .entry)) at)
+        × (at ≤ length (now (out .entry)) → r ≤ length (now (out .entry)))) ⌝ }
 {
-    if !has_room(out.len(), at) {
+    if !may_play(!takes_ledger(call, opened), out.len(), at) {
         return at;
     }
-    let at = play_other(
-        call,
-        numbers,
-        pdcps,
-        marks,
-        starts,
-        ends,
-        words,
-        opened,
-        buffer,
-        out,
-        at,
-    );
-    put_octet(LINE_FEED, out, at)
+    play_other(call, numbers, pdcps, marks, starts, ends, words, opened, out, at)
 }

@@ -1,5 +1,4 @@
 pub mod Answers
 pub mod Stored
-pub mod Within
 pub mod Places
 pub mod Statuses

@@ -1,6 +1,7 @@
 -- `play_block`: each turn takes something of the block; answers end within the output. Assumes nothing.
 use Prim.Native.Nat.{_+_, _-_, _≤_, _<_}
 use native.Mathlib.Omega.{arith}
+use mathlib.Core.List.{[]}
 use mathlib.Core.Path.{_≡_, refl, _∙_}
 use lib.ListN.{length, length-take, length-drop}
 use borrow.Author.Needs.{needs}
@@ -8,19 +9,16 @@ use Rattle.replay.proofs.play_block.Statement.{statement}
 use Rattle.replay.proofs.play_block.Tie as tie
 
 abbrev Inv-loop : tie.InvT-loop
-Inv-loop block line₀ numbers₀ pdcps₀ marks₀ starts₀ ends₀ words₀ out₀ frame₀ buffer₀ s₀ from₀ line numbers pdcps marks starts ends words out frame buffer s from = (from ≤ length block) × (s .at ≤ length out) × (length out ≡ length out₀) × (18432 ≤ length out) × (s .held ≤ 2044)
+Inv-loop block line₀ numbers₀ pdcps₀ marks₀ starts₀ ends₀ words₀ out₀ frame₀ s₀ from₀ line numbers pdcps marks starts ends words out frame s from = (from ≤ length block) × (s .at ≤ length out) × (length out ≡ length out₀) × (18432 ≤ length out) × (s .held ≤ 2044)
 
 abbrev μ-loop : tie.MeasureT-loop
-μ-loop block line₀ numbers₀ pdcps₀ marks₀ starts₀ ends₀ words₀ out₀ frame₀ buffer₀ s₀ from₀ line numbers pdcps marks starts ends words out frame buffer s from = length block - from
+μ-loop block line₀ numbers₀ pdcps₀ marks₀ starts₀ ends₀ words₀ out₀ frame₀ s₀ from₀ line numbers pdcps marks starts ends words out frame s from = length block - from
 
 empty-frame-requires : tie.Need-empty-frame-requires Inv-loop μ-loop
 empty-frame-requires c κs = search needs
 
-empty-buffer-requires : tie.Need-empty-buffer-requires Inv-loop μ-loop
-empty-buffer-requires c κs = search needs
-
 loop-holds : tie.Need-loop-holds Inv-loop μ-loop
-loop-holds c = let p = c .before .before .before .before .pre in (omega arith, p .1, refl, p .0, p .2)
+loop-holds c = let p = c .before .before .before .pre in (omega arith, p .1, refl, p .0, p .2)
 
 sub-take-line : tie.Need-sub-take-line Inv-loop μ-loop
 sub-take-line c = search needs
@@ -36,13 +34,13 @@ take-line-requires c κs = (simp (length-take, length-drop) (omega (arith, c .be
 
 -- a line was taken, of what was left of the block
 took : (c : tie.After-take-line Inv-loop μ-loop)
-    → (0 < c .take-line .result .taken) × (c .before .before .before .before .loop .from + c .take-line .result .taken ≤ length (c .before .before .before .before .before .before .before .before .before .args .block .now))
+    → (0 < c .take-line .result .taken) × (c .before .before .before .before .loop .from + c .take-line .result .taken ≤ length (c .before .before .before .before .before .before .before .before .args .block .now))
 took c =
-    let most = simp (length-take, length-drop) at (c .take-line .ensures .1) in
-    (c .take-line .ensures .0, omega (arith, most, c .before .before .before .loop-test .taken))
+    let most = simp (length-take, length-drop) at (c .take-line .ensures .within) in
+    (c .take-line .ensures .some, omega (arith, most, c .before .before .before .loop-test .taken))
 
 add-from : tie.Need-add-from Inv-loop μ-loop
-add-from c = omega (arith, took (c .before) .1, c .before .before .before .before .before .before .before .before .before .before .good .0 .0)
+add-from c = omega (arith, took (c .before) .1, c .before .before .before .before .before .before .before .before .before .good .0 .0)
 
 loop-less : tie.Need-loop-less Inv-loop μ-loop
 loop-less c = omega (arith, took (c .before .before .before) .0, took (c .before .before .before) .1)
@@ -50,7 +48,7 @@ loop-less c = omega (arith, took (c .before .before .before) .0, took (c .before
 loop-again : tie.Need-loop-again Inv-loop μ-loop
 loop-again c =
     let l = c .before .before .before .before .before .before .before .loop in
-    (took (c .before .before .before) .1, l .inv .1, l .inv .2, l .inv .3, c .before .before .before .take-line .ensures .2)
+    (took (c .before .before .before) .1, l .inv .1, l .inv .2, l .inv .3, c .before .before .before .take-line .ensures .few)
 
 held-call-requires : tie.Need-held-call-requires Inv-loop μ-loop
 held-call-requires c κs = search needs
@@ -71,15 +69,15 @@ play-keeper-requires : tie.Need-play-keeper-requires Inv-loop μ-loop
 play-keeper-requires c κs = search needs
 
 loop-less-2 : tie.Need-loop-less-2 Inv-loop μ-loop
-loop-less-2 c = omega (arith, took (c .before .before .before .before .before .before .before .before .before .before .before .before .before .before .before .before .before .before .before .before .before .before .before .before) .0, took (c .before .before .before .before .before .before .before .before .before .before .before .before .before .before .before .before .before .before .before .before .before .before .before .before) .1)
+loop-less-2 c = omega (arith, took (c .before .before .before .before .before .before .before .before .before .before .before .before .before .before .before .before .before .before .before .before .before .before .before) .0, took (c .before .before .before .before .before .before .before .before .before .before .before .before .before .before .before .before .before .before .before .before .before .before .before) .1)
 
 loop-again-2 : tie.Need-loop-again-2 Inv-loop μ-loop
 loop-again-2 c =
     let d = c .before .before in
-    let l = c .before .before .before .before .before .before .before .before .before .before .before .before .before .before .before .before .before .before .before .before .before .before .before .before .before .before .before .before .loop in
-    let size = d .play-keeper .kept .1 .1 .1 .1 .1 .1 .1 .1 .1 .0 in
-    let within = d .play-keeper .ensures (omega (arith, c .before .before .before .before .before .before .before .before .before .before .before .before .before .before .before .next-place .ensures)) in
-    (took (c .before .before .before .before .before .before .before .before .before .before .before .before .before .before .before .before .before .before .before .before .before .before .before .before) .1, omega (arith, within, size), size ∙ l .inv .2, omega (arith, size, l .inv .3), omega arith)
+    let l = c .before .before .before .before .before .before .before .before .before .before .before .before .before .before .before .before .before .before .before .before .before .before .before .before .before .before .before .loop in
+    let size = d .play-keeper .kept .1 .1 .1 .1 .1 .1 .1 .1 .0 in
+    let within = d .play-keeper .ensures (l .s .ledger) [] .1 (omega (arith, c .before .before .before .before .before .before .before .before .before .before .before .before .before .before .next-place .ensures)) in
+    (took (c .before .before .before .before .before .before .before .before .before .before .before .before .before .before .before .before .before .before .before .before .before .before .before) .1, omega (arith, within, size), size ∙ l .inv .2, omega (arith, size, l .inv .3), omega arith)
 
 play-master-requires : tie.Need-play-master-requires Inv-loop μ-loop
 play-master-requires c κs = search needs
@@ -92,7 +90,7 @@ loop-again-3 c =
     let d = c .before .before .before in
     let l = c .before .before .before .before .before .before .before .before .before .before .before .before .before .before .before .before .before .before .before .before .before .before .before .before .before .before .before .before .before .before .loop in
     let size = d .play-master .kept .1 .1 .1 .1 .1 .1 .1 .1 .1 .1 .0 in
-    let within = d .play-master .ensures (omega (arith, c .before .before .before .before .before .before .before .before .before .before .before .before .before .before .before .before .before .next-place .ensures)) in
+    let within = d .play-master .ensures .1 (omega (arith, c .before .before .before .before .before .before .before .before .before .before .before .before .before .before .before .before .before .next-place .ensures)) in
     (took (c .before .before .before .before .before .before .before .before .before .before .before .before .before .before .before .before .before .before .before .before .before .before .before .before .before .before) .1, omega (arith, within, size), size ∙ l .inv .2, omega (arith, size, l .inv .3), omega arith)
 
 same-length-2 : tie.Need-same-length-2 Inv-loop μ-loop
@@ -108,7 +106,6 @@ play-block-spec =
     Inv-loop
     μ-loop
     empty-frame-requires
-    empty-buffer-requires
     loop-holds
     sub-take-line
     part-take-line-start

@@ -4,7 +4,7 @@ use native.Mathlib.Omega.{arith}
 use Rattle.bearer.specs.Keeper.{Reported}
 use Rattle.keeper.specs.View.{keeperIn}
 use Rattle.x2u.proofs.Answers.{left-as, not-refused}
-use Rattle.x2u.proofs.Within.{answered-within, within-report}
+use Rattle.bearer.proofs.Within.{answered-within, within-report}
 use Rattle.x2u.specs.Boundary.{reports}
 use borrow.Author.Needs.{needs}
 use Rattle.x2u.proofs.x2u_keeper_status.Statement.{statement}
