@@ -1,8 +1,8 @@
 /* The secondary's end from C: document 01's bench sheet, played through x2u.h. Each line says what was done and what came of
  * it; the exit status is 0 if every outcome is document 01's.
  *
- *     rt staticlib x2u && rt staticlib x2u_frame
- *     gcc -Iinclude examples/secondary.c target/staticlib/libx2u.a target/staticlib/libx2u_frame.a -o secondary && ./secondary */
+ *     scripts/archive.sh
+ *     gcc -Iinclude examples/secondary.c target/libx2u.a -o secondary && ./secondary */
 #include <stdio.h>
 #include <string.h>
 

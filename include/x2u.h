@@ -1,7 +1,5 @@
 /* The X2 user plane of LTE dual connectivity (3GPP TS 36.425): reading and writing X2-U frames, and the loss keeper of the
- * secondary (SeNB). Link libx2u_frame.a, which `rt staticlib x2u_frame` makes, for x2u_read_all, x2u_write_data and
- * x2u_write_status, and libx2u.a, of `rt staticlib x2u`, for all others; neither needs the other. Every function in them is
- * proved, and none has a condition.
+ * secondary (SeNB). Link libx2u.a, which scripts/archive.sh makes. Every function in it is proved, and none has a condition.
  *
  * An answer from 0 on is the call's own; one below 0 is minus the number of a refusal, and then nothing lent has changed.
  * Octets of any content and length, a keeper and a cursor of any content get an answer. A pointer whose length is 0 may be

@@ -6,7 +6,8 @@ set -eu
 cd "$(dirname "$0")/.."
 scripts/setup.sh
 command -v valgrind >/dev/null || $([ "$(id -u)" = 0 ] || echo sudo) apt-get install -y -qq valgrind >&2
-for name in x2u x2u_frame probe lister; do scripts/native.sh $name; done
+scripts/archive.sh native >/dev/null
+for name in probe lister; do scripts/native.sh $name; done
 out=$PWD/target/bench
 mkdir -p "$out"
 export X2U_ARCHIVES=$PWD/target/native
@@ -39,7 +40,7 @@ $programs/race "$out/frames.txt" $programs/lister target/native/lister | tee "$o
 {
   echo "Machine: $(uname -m), $(lscpu | sed -n 's/^Model name: *//p'), $(nproc) processors; load $(cut -d' ' -f1 /proc/loadavg) at the end."
   echo "Compilers: $(rustc --version | cut -d' ' -f1,2), $(head -n 1 "$(dirname "$(dirname "$(rt doc)")")/KIT-ID" | cut -d' ' -f1)."
-  echo "Undefined symbols of the archives of codec and keeper, among which an allocator would be: $(nm -u target/native/libx2u.a target/native/libx2u_frame.a | grep -c ' U ' || true)."
+  echo "Undefined symbols of the archive of codec and keeper, among which an allocator would be: $(nm -u target/native/libx2u.a | grep -c ' U ' || true)."
   echo
   $programs/tables rust/target/criterion "$out/counts.tsv" "$out/lister.tsv"
 } >"$out/tables.md"

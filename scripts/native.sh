@@ -1,7 +1,7 @@
 #!/usr/bin/env bash
-# native.sh NAME: proves and builds a crate by rt, and builds it for this machine's own processor besides: target/native/libNAME.a
-# of a library, target/native/NAME of a program. It is for measuring and for tests on other processors; what is shipped is rt's
-# own build.
+# native.sh NAME: proves and builds a crate by rt, and builds it for this machine's own processor besides:
+# target/native/staticlib/libNAME.a of a library, target/native/NAME of a program. It is for measuring and for tests on other
+# processors; what is shipped is rt's own build, target/staticlib/libNAME.a or target/bin/NAME.
 #
 # The kit compiles for x86-64 alone. Elsewhere the LLVM module that its compiler hands to clang is kept, what ties it to x86-64 is
 # taken off, and clang compiles it again. A module says nothing of a processor but its target lines and three attributes: sizes and
@@ -12,12 +12,14 @@ name=$1
 kit=$(dirname "$(dirname "$(rt doc)")")
 machine=$(uname -m)
 out=$PWD/target/native
-mkdir -p "$out"
+mkdir -p "$out/staticlib"
+if [ -f "crates/$name/src/main.rt" ]; then made=$out/$name shipped=target/bin/$name; else made=$out/staticlib/lib$name.a shipped=target/staticlib/lib$name.a; fi
 
-# A crate's code is that of every crate below it, so all are in the key; an unchanged one isn't built again.
-key=$({ cat "$kit/KIT-ID" crates.txt "$0"; find crates/*/src -type f | LC_ALL=C sort | xargs sha256sum; } | sha256sum)
-if [ -f "crates/$name/src/main.rt" ]; then made=$out/$name shipped=target/bin/$name; else made=$out/lib$name.a shipped=target/staticlib/lib$name.a; fi
-if [ -f "$made" ] && [ -f "$shipped" ] && [ "$(cat "$out/$name.key" 2>/dev/null)" = "$key" ]; then exit 0; fi
+# What is proved of a crate stands on every crate below it, so all are in the key, with both builds themselves. With nothing
+# changed nothing is proved or built again.
+sources=$({ cat "$kit/KIT-ID" crates.txt "$0"; find crates/*/{src,specs,proofs} -type f | LC_ALL=C sort | xargs sha256sum; } | sha256sum)
+key() { echo "$sources"; sha256sum "$shipped" "$made"; }
+if [ -f "$made" ] && [ -f "$shipped" ] && [ "$(cat "$out/$name.key" 2>/dev/null)" = "$(key)" ]; then exit 0; fi
 
 build() { # by rt; a program that was proved before is built again
   if [ -f "crates/$name/src/main.rt" ]; then
@@ -53,4 +55,4 @@ else
   rm -f "$made"
   case $made in *.a) ar rcs "$made" "$out/$name.o" ;; *) gcc -o "$made" "$out/$name.o" ;; esac
 fi
-echo "$key" >"$out/$name.key"
+key >"$out/$name.key"

@@ -1,6 +1,6 @@
 #!/usr/bin/env bash
-# The C boundary: include/x2u.h says what the code says, and the C example and the hostile calls run against the archives that rt
-# makes for x86-64 (under the kit's emulator on another processor) and against those for this machine's own processor.
+# The C boundary: include/x2u.h says what the code says, and the C example and the hostile calls run against the archive for x86-64
+# (under the kit's emulator on another processor) and against that for this machine's own processor.
 set -u
 cd "$(dirname "$0")/.."
 passed=0
@@ -52,11 +52,14 @@ sed -n 's/^    X2U_\([A-Z_]*\) = \([0-9]*\),* .*/\1 \2/p' include/x2u.h | grep -
 sed -n 's/^pub const \([A-Z_]*\): u32 = \([0-9]*\);.*/\1 \2/p' crates/refusal/src/lib.rt | sort >"$work/refusals"
 check "x2u.h names refusals as document 01's table does" sh -c '[ -s "$1" ] && [ -z "$(comm -23 "$1" "$2")" ]' sh "$work/named" "$work/refusals"
 
-# ---- the archives: rt's own for x86-64, and those for this processor
+# ---- the archives: that for x86-64, of rt's own objects, and that for this processor
 
-for name in x2u x2u_frame; do check "the archives of $name are built" scripts/native.sh $name; done
-nm -g --defined-only target/staticlib/libx2u.a target/staticlib/libx2u_frame.a | sed -n 's/.* T \(x2u_.*\)/\1(/p' | sort >"$work/symbols"
-check "the archives have these functions" diff "$work/source" "$work/symbols"
+check "the archive for x86-64 is built" scripts/archive.sh
+check "the archive for this processor is built" scripts/archive.sh native
+for folder in target target/native; do
+  nm -g --defined-only $folder/libx2u.a | sed -n 's/.* T \(.*\)/\1(/p' | sort >"$work/symbols"
+  check "$folder/libx2u.a has these functions, each once" diff "$work/source" "$work/symbols"
+done
 
 kit=$(dirname "$(dirname "$(rt doc)")")
 if [ "$(uname -m)" = x86_64 ]; then
@@ -66,9 +69,9 @@ else
 fi
 for source in examples/secondary.c tests/hostile.c; do
   name=$(basename "$source" .c)
-  check "$name compiles for x86-64" $gcc86 -std=c11 -O2 $flags "$source" target/staticlib/libx2u.a target/staticlib/libx2u_frame.a -o "$work/$name.x86-64"
+  check "$name compiles for x86-64" $gcc86 -std=c11 -O2 $flags "$source" target/libx2u.a -o "$work/$name.x86-64"
   program "$name on x86-64" $run86 "$work/$name.x86-64"
-  check "$name compiles for this processor, C checked" gcc -std=c11 -O1 -g $flags -fsanitize=address,undefined -fno-sanitize-recover=all "$source" target/native/libx2u.a target/native/libx2u_frame.a -o "$work/$name"
+  check "$name compiles for this processor, C checked" gcc -std=c11 -O1 -g $flags -fsanitize=address,undefined -fno-sanitize-recover=all "$source" target/native/libx2u.a -o "$work/$name"
   program "$name on this processor, C checked" "$work/$name"
 done
 seed=$(od -An -N4 -tu4 /dev/urandom | tr -d ' ')

@@ -5,7 +5,7 @@
 set -u
 cd "$(dirname "$0")/.."
 broken() { echo "property: $1"; echo "0 passed, 1 failed"; exit 1; }
-for name in x2u x2u_frame; do scripts/native.sh $name || broken "the archive of $name doesn't build"; done
+scripts/archive.sh native >/dev/null || broken "the archive doesn't build"
 scripts/native.sh replay || broken "replay doesn't build"
 (cd rust && cargo build -p programs --release --quiet &&
   X2U_ARCHIVES=$(cd ../target/native && pwd) cargo build -p property --features product --release --quiet) || broken "the tests don't build"

@@ -1,4 +1,4 @@
-//! Finds the product's archives, if they are asked for.
+//! Finds the product's archive and the probe's, if they are asked for.
 
 use std::env;
 use std::path::Path;
@@ -7,27 +7,23 @@ const FOLDER: &str = "X2U_ARCHIVES";
 
 fn main() {
     println!("cargo:rerun-if-env-changed={FOLDER}");
-    for (feature, name) in [
-        ("PRODUCT", "x2u"),
-        ("PRODUCT", "x2u_frame"),
-        ("PROBE", "probe"),
-    ] {
+    // In this order: folders are searched as they come, and the second has a part
+    // of the first archive under that archive's name.
+    for (feature, below, name) in [("PRODUCT", "", "x2u"), ("PROBE", "staticlib", "probe")] {
         if env::var_os(format!("CARGO_FEATURE_{feature}")).is_some() {
-            link(name);
+            link(below, name);
         }
     }
 }
 
-fn link(name: &str) {
+fn link(below: &str, name: &str) {
     let Some(folder) = env::var_os(FOLDER) else {
-        panic!("{FOLDER} must name the folder of lib{name}.a");
+        panic!("{FOLDER} must name the folder of libx2u.a");
     };
-    let archive = Path::new(&folder).join(format!("lib{name}.a"));
+    let folder = Path::new(&folder).join(below);
+    let archive = folder.join(format!("lib{name}.a"));
     assert!(archive.exists(), "{} is not there", archive.display());
     println!("cargo:rerun-if-changed={}", archive.display());
-    println!(
-        "cargo:rustc-link-search=native={}",
-        Path::new(&folder).display()
-    );
+    println!("cargo:rustc-link-search=native={}", folder.display());
     println!("cargo:rustc-link-lib=static={name}");
 }

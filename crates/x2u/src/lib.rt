@@ -1,8 +1,8 @@
 // The C boundary of the secondary's loss keeper, and of reading a frame range by range: one function a call, on numbers, slices
 // and arrays of numbers. An answer from 0 on is document 01's, one below 0 is minus the number of a refusal. A flag or a form is
 // a number, 0 or not 0, since a `bool` that C made is undefined where its octet is neither 0 nor 1. include/x2u.h has C's side.
-// The crate x2u_frame has the calls on whole frames, an archive of their own: the compiler makes one of a function and its caller
-// where it has one caller in the archive, and no answer of reader and writer then passes through memory.
+// The crate x2u_frame has the calls on whole frames, an object of their own: the compiler makes one of a function and its caller
+// where it has one caller in the object, and no answer of reader and writer then passes through memory.
 ghost use mathlib.Core.Path.{_≡_};
 ghost use mathlib.Core.List.{[], _∷_};
 ghost use Prim.Native.Nat.{ℕ, _^_, _≤_, _<_};

@@ -1,5 +1,5 @@
 // The C boundary of whole frames: reading one with all its ranges in one call, and writing one. Answers, flags and forms are as
-// in the crate x2u, which has the other calls. These have an archive of their own, where reader and writer have one caller each.
+// in the crate x2u, which has the other calls. These have an object of their own, where reader and writer have one caller each.
 ghost use mathlib.Core.Path.{_≡_};
 ghost use Prim.Native.Nat.{_^_, _<_};
 ghost use lib.IntN.{pos};
