@@ -14,8 +14,7 @@ use Rattle.keeper.specs.View.{isSet, recordsOf}
 use Rattle.ledger.specs.declared.Entry.{Entry}
 use Rattle.ledger.specs.View.{entryIn, entriesIn}
 use Rattle.ledger.proofs.Entries.{blank}
-use Rattle.listing.specs.Listing.{tab, comma, parted}
-use Rattle.answering.specs.Answers.{joined}
+use Rattle.listing.specs.Listing.{tab, comma, parted, joined}
 use Rattle.answering.specs.Puts.{Puts}
 use Rattle.answering.proofs.Putting.{puts-none, puts-then, puts-most}
 

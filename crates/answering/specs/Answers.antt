@@ -10,7 +10,7 @@ use Rattle.layout.specs.Basics.{if_then_else_, bit}
 use Rattle.writer.specs.Laid.{Laid}
 use Rattle.bearer.specs.Keeper.{Keeper, Record}
 use Rattle.bearer.specs.Ledger as master
-use Rattle.listing.specs.Listing.{ascii, lineFeed, tab, comma, decimal, parted, rangeText}
+use Rattle.listing.specs.Listing.{ascii, lineFeed, tab, decimal, parted, joined, rangesText}
 use Rattle.answering.specs.declared.Answer.{Answer}
 use Rattle.answering.specs.declared.Answer.the-variants.{Ok, Unopened, Unreadable, Lost, Sent, Freed, Taken, Refused}
 
@@ -46,11 +46,6 @@ frameFields octets = ascii "frame" ∷ hexText octets ∷ []
 
 -- ---- an end as it stands
 
--- texts joined by commas, or `none`
-abbrev pub joined : List (List ℕ) → List ℕ
-joined [] = ascii "none"
-joined (t ∷ ts) = parted comma (t ∷ ts)
-
 -- a packet as number:pdcp:kind
 abbrev pub packetText : ℕ → ℕ → ℕ → List ℕ
 packetText number pdcp kind = decimal number ++ (colon ∷ (decimal pdcp ++ (colon ∷ kind ∷ [])))
@@ -79,7 +74,7 @@ keeperFields k =
     ∷ decimal (k .base)
     ∷ decimal (k .reported)
     ∷ decimal (bit (k .closed))
-    ∷ joined (map rangeText (k .runs))
+    ∷ rangesText (k .runs)
     ∷ joined (map recordText (k .records))
     ∷ []
 

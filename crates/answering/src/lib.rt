@@ -7,10 +7,10 @@ ghost use lib.Dec.{leb};
 ghost use lib.ListN.{length, getD, take};
 ghost use Rattle.layout.specs.Basics.{bit};
 ghost use Rattle.layout.specs.Frames.{rangesOf};
-ghost use Rattle.listing.specs.Listing.{ascii, tab, decimal, parted, rangeText};
+ghost use Rattle.listing.specs.Listing.{ascii, tab, decimal, parted, rangeText, joined, rangesText};
 ghost use Rattle.keeper.specs.View.{isSet, recordsOf, keeperIn};
 ghost use Rattle.ledger.specs.View.{fateIn, entryIn, entriesIn, ledgerIn};
-ghost use Rattle.answering.specs.Answers.{answerFields, hexDigit, hexText, frameFields, joined, packetText, recordKind, recordText, fateKind, entryText, keeperFields, ledgerFields, lineWith, mostText, Said};
+ghost use Rattle.answering.specs.Answers.{answerFields, hexDigit, hexText, frameFields, packetText, recordKind, recordText, fateKind, entryText, keeperFields, ledgerFields, lineWith, mostText, Said};
 ghost use Rattle.answering.specs.Puts.{Puts};
 use ledger::Entry;
 use ledger::Fate;
@@ -169,7 +169,7 @@ fn put_run(mark: u8, start: u32, end: u32, out: &mut [u8], at: usize) -> usize
 // The field of the listed runs, with a tab before it.
 fn put_runs(starts: &[u32], ends: &[u32], n: usize, out: &mut [u8], at: usize) -> usize
     requires { ⌜ (n ≤ 256) × (n ≤ length (now starts)) × (n ≤ length (now ends)) ⌝ }
-    ensures { λ r. ⌜ Puts (now (out .entry)) at (tab ∷ joined (map rangeText (take n (rangesOf (now (starts .entry)) (now (ends .entry)))))) r (now (out .exit)) 5632 ⌝ }
+    ensures { λ r. ⌜ Puts (now (out .entry)) at (tab ∷ rangesText (take n (rangesOf (now (starts .entry)) (now (ends .entry))))) r (now (out .exit)) 5632 ⌝ }
 {
     if n == 0 {
         return put(b"\tnone", out, at);

@@ -85,10 +85,14 @@ parted mark (p ∷ q ∷ ps) = p ++ mark ∷ parted mark (q ∷ ps)
 abbrev pub rangeText : Range → List ℕ
 rangeText r = decimal (r .start) ++ dash ∷ decimal (r .end)
 
--- ranges joined by commas, or `none`
+-- texts joined by commas, or `none`
+abbrev pub joined : List (List ℕ) → List ℕ
+joined [] = ascii "none"
+joined (t ∷ ts) = parted comma (t ∷ ts)
+
+-- ranges so joined
 abbrev pub rangesText : List Range → List ℕ
-rangesText [] = ascii "none"
-rangesText (r ∷ rs) = parted comma (map rangeText (r ∷ rs))
+rangesText rs = joined (map rangeText rs)
 
 -- data: type, number; status: type, highest, desired, minimum, Final as 0 or 1, ranges; refused: `refused`, number
 abbrev pub fieldsOf : Reading → List (List ℕ)
