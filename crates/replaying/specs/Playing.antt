@@ -104,7 +104,7 @@ playOn e Keeper frame = shown e (keeperFields (e .keeper))
 playOn e Ledger frame = shown e (ledgerFields (e .ledger))
 playOn e Unreadable frame = answered e A.the-variants.Unreadable
 
--- every call but an open is made on ends that are open
+-- a call is made on ends that are open; an open is not, nor is what can't be read
 abbrev pub needsOpen : Call → Bool
 needsOpen (Open length first pdcp) = false
 needsOpen (Arrive number pdcp) = true
