@@ -1,7 +1,7 @@
 #!/usr/bin/env bash
 # Measures the product and the independent Rust implementation side by side and writes the tables into docs/PERFORMANCE.md,
 # between its two marks: times by criterion, instructions by valgrind's callgrind, the listers as whole programs in turn. The
-# product is built for this machine's own processor. Takes about 8 minutes; leave the machine alone meanwhile.
+# product is built for this machine's own processor. Takes about 10 minutes; leave the machine alone meanwhile.
 set -eu
 cd "$(dirname "$0")/.."
 scripts/setup.sh
@@ -14,8 +14,13 @@ export X2U_ARCHIVES=$PWD/target/native
 (cd rust && cargo build -p programs --release --quiet && cargo build -p bench --features product --release --quiet)
 programs=rust/target/release
 
-# times
-(cd rust && cargo bench -p bench --features product) | tee "$out/criterion.log" | grep --line-buffered -o '^Benchmarking [^:]*: Analyzing' >&2
+# times, in rounds in which the sides take turns: what else runs on the machine may slow one side for the whole of a round
+rm -rf "$out/rounds"
+for round in 1 2 3 4 5 6; do
+  (cd rust && cargo bench -p bench --features product) | tee "$out/criterion.log" | grep --line-buffered -o '^Benchmarking [^:]*: Analyzing' >&2
+  mkdir -p "$out/rounds/$round"
+  cp -r rust/target/criterion/. "$out/rounds/$round"
+done
 
 # instructions a call, within the batches: the first batch alone, or what 100 more turns of the ledger take
 count() { # CASE SIDE COUNT: calls made, instructions
@@ -42,7 +47,7 @@ $programs/race "$out/frames.txt" $programs/lister target/native/lister | tee "$o
   echo "Compilers: $(rustc --version | cut -d' ' -f1,2), $(head -n 1 "$(dirname "$(dirname "$(rt doc)")")/KIT-ID" | cut -d' ' -f1)."
   echo "Undefined symbols of the archive of codec and keeper, among which an allocator would be: $(nm -u target/native/libx2u.a | grep -c ' U ' || true)."
   echo
-  $programs/tables rust/target/criterion "$out/counts.tsv" "$out/lister.tsv"
+  $programs/tables "$out/rounds" "$out/counts.tsv" "$out/lister.tsv"
 } >"$out/tables.md"
 awk -v tables="$out/tables.md" '
   /<!-- measured: begin/ {print; print ""; while ((getline line < tables) > 0) print line; skip = 1}

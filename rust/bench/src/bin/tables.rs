@@ -3,25 +3,26 @@
 use bench::{Case, Rust, cases};
 use std::collections::BTreeMap;
 use std::fs;
-use std::path::Path;
+use std::path::{Path, PathBuf};
 use std::process::ExitCode;
 
 const USAGE: &str = "\
-usage: tables CRITERION COUNTS LISTER
+usage: tables ROUNDS COUNTS LISTER
 
-Prints the tables from criterion's folder, a file of instructions a call (case,
-side, count) and one of the lister's times (side, seconds, octets).";
+Prints the tables from a folder of criterion's folders, one for each round, a
+file of instructions a call (case, side, count) and one of the lister's times
+(side, seconds, octets).";
 
 /// The lister's goal.
 const LISTER: f64 = 2.0;
 
 fn main() -> ExitCode {
     let words: Vec<String> = std::env::args().skip(1).collect();
-    let [criterion, counts, lister] = &words[..] else {
+    let [rounds, counts, lister] = &words[..] else {
         eprintln!("{USAGE}");
         return ExitCode::from(2);
     };
-    match tables(Path::new(criterion), counts, lister) {
+    match tables(Path::new(rounds), counts, lister) {
         Ok(text) => {
             print!("{text}");
             ExitCode::SUCCESS
@@ -37,8 +38,12 @@ fn main() -> ExitCode {
 type Both = [f64; 2];
 const SIDES: [&str; 2] = ["rust", "rattle"];
 
-fn tables(criterion: &Path, counts: &str, lister: &str) -> Result<String, String> {
+fn tables(rounds: &Path, counts: &str, lister: &str) -> Result<String, String> {
     let read = |file: &str| fs::read_to_string(file).map_err(|error| format!("{file}: {error}"));
+    let trouble = |error: std::io::Error| format!("{}: {error}", rounds.display());
+    let rounds: Vec<PathBuf> = fs::read_dir(rounds)
+        .and_then(|folders| folders.map(|folder| Ok(folder?.path())).collect())
+        .map_err(trouble)?;
     let counts = counted(&read(counts)?)?;
     let mut text = String::new();
     let all = cases::<Rust>();
@@ -56,7 +61,7 @@ fn tables(criterion: &Path, counts: &str, lister: &str) -> Result<String, String
         text += "| case | Rust ns | Rattle ns | ratio | goal | Rust instructions | Rattle instructions |\n";
         text += "|---|---:|---:|---:|---:|---:|---:|\n";
         for case in all.iter().filter(|case| case.table == table) {
-            text += &row(case, criterion, &counts)?;
+            text += &row(case, &rounds, &counts)?;
         }
         text += "\n";
     }
@@ -65,8 +70,8 @@ fn tables(criterion: &Path, counts: &str, lister: &str) -> Result<String, String
     Ok(text)
 }
 
-fn row(case: &Case, criterion: &Path, counts: &BTreeMap<String, Both>) -> Result<String, String> {
-    let [rust, rattle] = SIDES.map(|side| fastest(&criterion.join(&case.id).join(side)));
+fn row(case: &Case, rounds: &[PathBuf], counts: &BTreeMap<String, Both>) -> Result<String, String> {
+    let [rust, rattle] = SIDES.map(|side| fastest_of(rounds, &case.id, side));
     let (rust, rattle) = (rust?, rattle?);
     let ratio = rattle / rust;
     let goal = match case.goal {
@@ -82,8 +87,20 @@ fn row(case: &Case, criterion: &Path, counts: &BTreeMap<String, Both>) -> Result
     ))
 }
 
-/// The fastest sample in nanoseconds a call, out of criterion's file: what else
-/// runs on a machine only ever makes a sample slower.
+/// The fastest sample of all rounds: what else runs on a machine only ever makes
+/// a sample slower, and may do so for a whole round.
+fn fastest_of(rounds: &[PathBuf], case: &str, side: &str) -> Result<f64, String> {
+    let each = rounds
+        .iter()
+        .map(|round| fastest(&round.join(case).join(side)));
+    let times: Vec<f64> = each.collect::<Result<_, _>>()?;
+    times
+        .into_iter()
+        .min_by(f64::total_cmp)
+        .ok_or_else(|| "no rounds".to_string())
+}
+
+/// The fastest sample of one round in nanoseconds a call, out of criterion's file.
 fn fastest(folder: &Path) -> Result<f64, String> {
     let file = folder.join("new/sample.json");
     let trouble = |what: &str| format!("{}: {what}", file.display());
