@@ -41,36 +41,42 @@ abbrev pub answerBy : {A : Type 0} → (A → Answer) → Outcome A → Answer
 answerBy f (done a) = f a
 answerBy f (refused n) = A.the-variants.Refused n
 
+-- a confirm that is done says no number
 abbrev pub okAnswer : {A : Type 0} → A → Answer
 okAnswer a = A.the-variants.Ok
 
+-- the three counts of an accept
 abbrev pub freedAnswer : master.Accepted → Answer
 freedAnswer a = A.the-variants.Freed (a .freed) (a .lost) (a .final)
 
+-- both numbers of a packet
 abbrev pub takenAnswer : master.Taken → Answer
 takenAnswer t = A.the-variants.Taken (t .number) (t .pdcp)
 
 -- ---- what a call leaves
 
--- nothing changes
-abbrev pub answered : Ends → Answer → Step
-answered e a = record { ends = e; line = lineWith (answerFields a) }
-
+-- these ends, and the line of these fields
 abbrev pub shown : Ends → List (List ℕ) → Step
 shown e fields = record { ends = e; line = lineWith fields }
 
--- a call on the secondary
+-- these ends, and the line of an answer
+abbrev pub answered : Ends → Answer → Step
+answered e a = shown e (answerFields a)
+
+-- ends whose secondary is another
 abbrev pub withKeeper : Ends → secondary.Keeper → Ends
 withKeeper e k = record { opened = e .opened; keeper = k; ledger = e .ledger }
 
+-- a call on the secondary
 abbrev pub onKeeper : {A : Type 0} → Ends → (A → Answer) → After secondary.Keeper A → Step
 onKeeper e f a = answered (withKeeper e (a .state)) (answerBy f (a .answer))
 
--- a status: its frame's octets, out of the buffer
+-- the line of a status: its frame's octets, out of the buffer
 abbrev pub statusLine : Outcome ℕ → List ℕ → List ℕ
 statusLine (done n) buffer = lineWith (frameFields (take n buffer))
 statusLine (refused n) buffer = lineWith (answerFields (A.the-variants.Refused n))
 
+-- a status of the secondary
 abbrev pub onStatus : Ends → secondary.Reported → Step
 onStatus e r = record { ends = withKeeper e (r .state); line = statusLine (r .answer) (r .buffer) }
 

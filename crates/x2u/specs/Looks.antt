@@ -1,4 +1,4 @@
--- What a look at a frame tells, as numbers: the words in which the private functions' contracts speak of what is read.
+-- What a look at a frame tells, as numbers: the words in which `look` and the functions beside it speak of what is read.
 -- Assumes nothing.
 use mathlib.Core.Bool.{Bool, true, false}
 use Prim.Native.Nat.{ℕ}
