@@ -53,7 +53,7 @@ static void reading(void)
 {
     static const uint8_t reserved[6] = {0x40, 1, 2, 3, 4, 5}, status[18] = {0x11}, one[14] = {[0] = 0x11, [11] = 1};
     static const uint8_t brief[10] = {0x10};
-    uint32_t fields[6];
+    uint32_t fields[X2U_FIELDS];
     outcome("read no octets", x2u_read(NULL, 0, fields), -X2U_LENGTH);
     outcome("read 8 octets", x2u_read(status, 8, fields), -X2U_LENGTH);
     outcome("read 40 and five more octets", x2u_read(reserved, sizeof reserved, fields), -X2U_RESERVED);
@@ -80,7 +80,7 @@ static void window(void)
 /* A status with one range, as it is read: its highest and its range. */
 static void one_range(const char *what, const uint8_t *frame, int64_t length, uint32_t highest, uint32_t start, uint32_t end)
 {
-    uint32_t fields[6] = {0}, cursor[3] = {0}, range[2] = {0};
+    uint32_t fields[X2U_FIELDS] = {0}, cursor[X2U_CURSOR] = {0}, range[X2U_RANGE] = {0};
     printf("      %s\n", what);
     outcome("  its type", x2u_read(frame, (size_t)length, fields), 1);
     outcome("  its highest", fields[0], highest);
@@ -120,7 +120,7 @@ static void held_back(void)
 {
     x2u_keeper k;
     uint8_t frame[X2U_MOST_OCTETS];
-    uint32_t fields[6] = {0}, cursor[3] = {0}, range[2] = {0};
+    uint32_t fields[X2U_FIELDS] = {0}, cursor[X2U_CURSOR] = {0}, range[X2U_RANGE] = {0};
     int64_t lost = 0, length, count = 0, apart = 0;
     outcome("open L 12, first 0, f 0", x2u_open(&k, 12, 0, 0), 0);
     for (uint32_t n = 1; n <= 325; n += 2) lost += x2u_arrive(&k, n, n);

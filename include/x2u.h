@@ -41,22 +41,26 @@ enum {
 
 enum {
     X2U_MOST_OCTETS = 1018, /* no frame is longer */
-    X2U_MOST_RANGES = 162   /* no status carries more ranges */
+    X2U_MOST_RANGES = 162,  /* no status carries more ranges */
+    X2U_FIELDS = 6,         /* a frame's fields, as numbers */
+    X2U_CURSOR = 3,         /* the words of a cursor */
+    X2U_RANGE = 2           /* the ends of a range: start and end */
 };
 
 /* The type of a frame, 0 to 3. Types 0 and 3 are data: fields[0] is the X2-U number. Types 1 and 2 are a status: the highest
  * PDCP number, desired size, minimum size, Final as 0 or 1, and how many ranges. Every other field is 0. */
-int64_t x2u_read(const uint8_t *frame, size_t length, uint32_t fields[6]);
+int64_t x2u_read(const uint8_t *frame, size_t length, uint32_t fields[X2U_FIELDS]);
 
 /* The same with all ranges of a status in one call: they stand at the front of starts and ends, whose other places stay as
  * they were. */
-int64_t x2u_read_all(const uint8_t *frame, size_t length, uint32_t fields[6], uint32_t starts[162], uint32_t ends[162]);
+int64_t x2u_read_all(const uint8_t *frame, size_t length, uint32_t fields[X2U_FIELDS], uint32_t starts[X2U_MOST_RANGES],
+                     uint32_t ends[X2U_MOST_RANGES]);
 
 /* How many ranges a frame has, which for data is none; the cursor stands before the first. */
-int64_t x2u_first_range(const uint8_t *frame, size_t length, uint32_t cursor[3]);
+int64_t x2u_first_range(const uint8_t *frame, size_t length, uint32_t cursor[X2U_CURSOR]);
 
 /* 1, with the range as start and end, and the cursor behind it; or 0 where none is left. */
-int64_t x2u_next_range(const uint8_t *frame, size_t length, uint32_t cursor[3], uint32_t range[2]);
+int64_t x2u_next_range(const uint8_t *frame, size_t length, uint32_t cursor[X2U_CURSOR], uint32_t range[X2U_RANGE]);
 
 /* How many octets were written at the front of a buffer. `longer` is 0 for the short form (L 12 or 15), else the long one;
  * `last` is 0 for a status that isn't Final. Range i is starts[i] to ends[i], as many as there are of both. */
@@ -67,28 +71,49 @@ int64_t x2u_write_status(uint32_t longer, uint32_t last, uint32_t highest, uint3
 
 /* ---- the keeper: its parts as arrays, in the order in which they stand in a block */
 
-int64_t x2u_keeper_open(uint32_t numbers[512], uint32_t pdcps[512], uint32_t marks[512], uint32_t starts[256],
-                        uint32_t ends[256], uint32_t words[6], uint32_t length, uint32_t number, uint32_t pdcp);
-int64_t x2u_keeper_arrive(uint32_t numbers[512], uint32_t pdcps[512], uint32_t marks[512], uint32_t starts[256],
-                          uint32_t ends[256], uint32_t words[6], uint32_t number, uint32_t pdcp);
-int64_t x2u_keeper_expire(uint32_t numbers[512], uint32_t pdcps[512], uint32_t marks[512], uint32_t starts[256],
-                          uint32_t ends[256], uint32_t words[6]);
-int64_t x2u_keeper_confirm(uint32_t numbers[512], uint32_t pdcps[512], uint32_t marks[512], uint32_t starts[256],
-                           uint32_t ends[256], uint32_t words[6], uint32_t number);
-int64_t x2u_keeper_status(uint32_t numbers[512], uint32_t pdcps[512], uint32_t marks[512], uint32_t starts[256],
-                          uint32_t ends[256], uint32_t words[6], uint32_t desired, uint32_t minimum, uint32_t last,
-                          uint8_t *buffer, size_t room);
+enum {
+    X2U_MOST_RECORDS = 512, /* records that are held: number, PDCP number and mark each */
+    X2U_MOST_RUNS = 256,    /* runs that are listed: start and end each */
+    X2U_WORDS = 6           /* L, base, reported highest, closed, how many runs, how many records */
+};
+
+int64_t x2u_keeper_open(uint32_t numbers[X2U_MOST_RECORDS], uint32_t pdcps[X2U_MOST_RECORDS], uint32_t marks[X2U_MOST_RECORDS],
+                        uint32_t starts[X2U_MOST_RUNS], uint32_t ends[X2U_MOST_RUNS], uint32_t words[X2U_WORDS],
+                        uint32_t length, uint32_t number, uint32_t pdcp);
+int64_t x2u_keeper_arrive(uint32_t numbers[X2U_MOST_RECORDS], uint32_t pdcps[X2U_MOST_RECORDS], uint32_t marks[X2U_MOST_RECORDS],
+                          uint32_t starts[X2U_MOST_RUNS], uint32_t ends[X2U_MOST_RUNS], uint32_t words[X2U_WORDS],
+                          uint32_t number, uint32_t pdcp);
+int64_t x2u_keeper_expire(uint32_t numbers[X2U_MOST_RECORDS], uint32_t pdcps[X2U_MOST_RECORDS], uint32_t marks[X2U_MOST_RECORDS],
+                          uint32_t starts[X2U_MOST_RUNS], uint32_t ends[X2U_MOST_RUNS], uint32_t words[X2U_WORDS]);
+int64_t x2u_keeper_confirm(uint32_t numbers[X2U_MOST_RECORDS], uint32_t pdcps[X2U_MOST_RECORDS], uint32_t marks[X2U_MOST_RECORDS],
+                           uint32_t starts[X2U_MOST_RUNS], uint32_t ends[X2U_MOST_RUNS], uint32_t words[X2U_WORDS],
+                           uint32_t number);
+int64_t x2u_keeper_status(uint32_t numbers[X2U_MOST_RECORDS], uint32_t pdcps[X2U_MOST_RECORDS], uint32_t marks[X2U_MOST_RECORDS],
+                          uint32_t starts[X2U_MOST_RUNS], uint32_t ends[X2U_MOST_RUNS], uint32_t words[X2U_WORDS],
+                          uint32_t desired, uint32_t minimum, uint32_t last, uint8_t *buffer, size_t room);
 
 /* ---- the keeper as one block, for any memory that the caller has; it may be copied as a whole. Open it before any other
  * call: what another call answers on a block that wasn't opened has no meaning. */
 
+/* where the parts start in a block, and how many words it has */
+enum {
+    X2U_AT_NUMBERS = 0,
+    X2U_AT_PDCPS = X2U_AT_NUMBERS + X2U_MOST_RECORDS,
+    X2U_AT_MARKS = X2U_AT_PDCPS + X2U_MOST_RECORDS,
+    X2U_AT_STARTS = X2U_AT_MARKS + X2U_MOST_RECORDS,
+    X2U_AT_ENDS = X2U_AT_STARTS + X2U_MOST_RUNS,
+    X2U_AT_WORDS = X2U_AT_ENDS + X2U_MOST_RUNS,
+    X2U_KEEPER = X2U_AT_WORDS + X2U_WORDS
+};
+
 typedef struct x2u_keeper {
-    uint32_t opaque[2054];
+    uint32_t opaque[X2U_KEEPER];
 } x2u_keeper;
 
 /* the parts of a block, as every function above takes them */
 #define X2U_PARTS(k) \
-    (k)->opaque, (k)->opaque + 512, (k)->opaque + 1024, (k)->opaque + 1536, (k)->opaque + 1792, (k)->opaque + 2048
+    (k)->opaque + X2U_AT_NUMBERS, (k)->opaque + X2U_AT_PDCPS, (k)->opaque + X2U_AT_MARKS, (k)->opaque + X2U_AT_STARTS, \
+        (k)->opaque + X2U_AT_ENDS, (k)->opaque + X2U_AT_WORDS
 
 /* Opens the end: L, the first X2-U number and the first PDCP number. 0. */
 static inline int64_t x2u_open(x2u_keeper *k, uint32_t length, uint32_t number, uint32_t pdcp)

@@ -1,5 +1,5 @@
 #!/usr/bin/env bash
-# archive.sh [native]: the one archive that a program in C links, target/libx2u.a. Proves and builds the crates x2u and x2u_frame
+# archive.sh [native]: the one archive that a program in C links, target/libx2u.a. Proves and builds the crates c_calls and c_frames
 # by rt, joins their objects, checks the whole, and prints its path. What it makes is for x86-64; with `native` it joins what
 # native.sh makes for this machine's own processor, as target/native/libx2u.a. The first time takes minutes; with nothing changed
 # nothing is proved or built again.
@@ -18,7 +18,7 @@ broken() { echo "archive.sh: $1" >&2; exit 1; }
 
 # Each object is named for its crate and its place there, so no two in the whole have one name
 objects=()
-for name in x2u x2u_frame; do
+for name in c_calls c_frames; do
   scripts/native.sh $name >&2
   part=$out/staticlib/lib$name.a
   mkdir "$work/$name"

@@ -7,7 +7,7 @@ cd "$(dirname "$0")/.."
 scripts/setup.sh
 command -v valgrind >/dev/null || $([ "$(id -u)" = 0 ] || echo sudo) apt-get install -y -qq valgrind >&2
 scripts/archive.sh native >/dev/null
-for name in probe lister; do scripts/native.sh $name; done
+for name in ledger_probe lister; do scripts/native.sh $name; done
 out=$PWD/target/bench
 mkdir -p "$out"
 export X2U_ARCHIVES=$PWD/target/native

@@ -21,9 +21,9 @@ sources=$({ cat "$kit/KIT-ID" crates.txt "$0"; find crates/*/{src,specs,proofs} 
 key() { echo "$sources"; sha256sum "$shipped" "$made"; }
 if [ -f "$made" ] && [ -f "$shipped" ] && [ "$(cat "$out/$name.key" 2>/dev/null)" = "$(key)" ]; then exit 0; fi
 
-build() { # by rt; a program that was proved before is built again
+build() { # by rt. Its own object serves on x86-64; elsewhere a program that was proved before is built again, for the module
   if [ -f "crates/$name/src/main.rt" ]; then
-    rm -f "target/stamp/$name"
+    if [ "$machine" != x86_64 ] || [ ! -f "target/obj/$name.o" ]; then rm -f "target/stamp/$name"; fi
     rt check "$name"
   else
     rt staticlib "$name"

@@ -1,20 +1,32 @@
 #!/usr/bin/env bash
-# Sets up and runs every test there is: each suite ends in a line 'N passed, M failed', and so does the whole.
+# Sets up and runs every test there is: each suite ends in a line 'N passed, M failed', and so does the whole. Suites run side by side
+# where they need nothing of each other; what one printed comes whole, once it ended. All of it stays in target/test.log, of which
+# scripts/times.sh makes the table of times.
 set -u
 cd "$(dirname "$0")/.."
-scripts/setup.sh || { echo "0 passed, 1 failed"; exit 1; }
+exec 9<scripts/test.sh
+flock -n 9 || { echo "test.sh: the tests are running in this folder already"; echo "0 passed, 1 failed"; exit 1; }
+work=$(mktemp -d)
+trap 'rm -rf "$work"' EXIT
+jobs=$(nproc)
 passed=0
 failed=0
+SECONDS=0
 
-# suite NAME COMMAND..: runs it, shows what it prints, and adds up its last line; a suite that breaks off counts as one failure
-suite() {
-  local name=$1 log last
+# run NAME COMMAND..: runs a suite, and leaves what it printed, how it ended and how long it took
+run() {
+  local name=$1 began=$SECONDS
   shift
-  log=$(mktemp)
-  echo "== $name"
-  "$@" 2>&1 | tee "$log"
-  local status=${PIPESTATUS[0]}
-  last=$(tail -n 1 "$log")
+  "$@" 2>&1 | tee "$work/$name.log"
+  echo "${PIPESTATUS[0]}" >"$work/$name.status"
+  echo "-- $name took $((SECONDS - began)) s" >"$work/$name.took"
+}
+
+# count NAME: adds up an ended suite's last line; a suite that broke off counts as one failure
+count() {
+  local name=$1 last status
+  status=$(cat "$work/$name.status")
+  last=$(tail -n 1 "$work/$name.log")
   if [[ $last =~ ^([0-9]+)\ passed,\ ([0-9]+)\ failed$ ]]; then
     passed=$((passed + BASH_REMATCH[1]))
     failed=$((failed + BASH_REMATCH[2]))
@@ -23,12 +35,47 @@ suite() {
     echo "$name broke off"
     failed=$((failed + 1))
   fi
-  rm -f "$log"
+  cat "$work/$name.took"
 }
 
-suite "proofs and programs" rt ci
-for t in tests/*.sh; do
-  suite "$(basename "$t" .sh)" "$t"
-done
-echo "$passed passed, $failed failed"
-[ "$failed" -eq 0 ]
+# Suites in the background, at most as many as there are processors; `ended` shows and counts those that have ended
+waiting=()
+behind() { run "$1" "$2" >/dev/null 9<&- & waiting+=("$1"); }
+ended() {
+  local name left=()
+  for name in "${waiting[@]}"; do
+    if [ -f "$work/$name.took" ]; then echo "== $name"; cat "$work/$name.log"; count "$name"; else left+=("$name"); fi
+  done
+  waiting=("${left[@]}")
+}
+
+all() {
+  scripts/setup.sh || { echo "0 passed, 1 failed"; return 1; }
+
+  # The Rust side needs nothing of the proofs. These take more jobs than there are processors, so that a short one waits for no long one
+  behind rust tests/rust.sh
+  echo "== proofs"
+  run proofs env RT_JOBS="${RT_JOBS:-$((2 * jobs))}" rt ci
+  count proofs
+  while [ ${#waiting[@]} -gt 0 ]; do wait -n; ended; done
+
+  # What several suites build is built once; where that fails they say so
+  run builds scripts/build.sh >/dev/null
+  cat "$work/builds.took"
+  for name in property ramp boundary same_lister lister bench_sheet format docs; do
+    while [ ${#waiting[@]} -ge "$jobs" ]; do wait -n; ended; done
+    behind $name tests/$name.sh
+  done
+  while [ ${#waiting[@]} -gt 0 ]; do wait -n; ended; done
+
+  echo "-- all took $SECONDS s"
+  echo "$passed passed, $failed failed"
+  [ "$failed" -eq 0 ]
+}
+
+all > >(tee "$work/test.log")
+status=$?
+wait
+mkdir -p target
+cp "$work/test.log" target/test.log
+exit $status

@@ -31,15 +31,44 @@ program() {
 
 # ---- the header says what the code says
 
-# the exported functions of the source, as C declares them
-declared() {
-  cat crates/x2u/src/lib.rt crates/x2u_frame/src/lib.rt | tr '\n' ' ' |
-    grep -o '#\[no_mangle\] *pub extern "C" fn [a-z0-9_]*([^)]*) -> i64' |
-    sed -e 's/.* fn \([a-z0-9_]*\)(\(.*\)) -> i64$/int64_t \1(\2);/' \
-      -e 's/[a-z]*: &mut \[u32; \([0-9]*\)\]/uint32_t[\1]/g' -e 's/[a-z]*: &\[u\([0-9]*\)\]/const uint\1_t *, size_t/g' \
-      -e 's/[a-z]*: &mut \[u8\]/uint8_t *, size_t/g' -e 's/[a-z]*: u32/uint32_t/g' -e 's/, *);/);/'
+# number CRATE WORDS: the number that the source's words say in a crate, which may name consts of this crate and of others
+number() {
+  local words=$2 name
+  while [[ $words =~ ([a-z_]+::)?[A-Z][A-Z_]* ]]; do
+    name=${BASH_REMATCH[0]}
+    case $name in *::*) words=${words/$name/$(const "${name%::*}" "${name#*::}")} ;; *) words=${words/$name/$(const "$1" "$name")} ;; esac
+  done
+  echo $((${words% as *}))
 }
-declared >"$work/declared"
+const() { # CRATE NAME
+  local words
+  words=$(sed -n "s/^\(pub \)*const $2: [a-z0-9]* = \([^;]*\);.*/\2/p" crates/"$1"/src/*.rt)
+  number "$1" "${words:?no const $2 in $1}"
+}
+# size CRATE TYPE: how many numbers an array of that name has
+size() {
+  local words
+  words=$(sed -n "s/^\(pub \)*type $2 = \([^;]*\(; [^;]*\)*\);\$/\2/p" crates/"$1"/src/*.rt)
+  case ${words:?no type $2 in $1} in
+  '[u32; '*']') words=${words#'[u32; '} && number "$1" "${words%]}" ;;
+  *::*) size "${words%::*}" "${words#*::}" ;;
+  *) size "$1" "$words" ;;
+  esac
+}
+
+# the exported functions of a crate's source, as C declares them
+declared() {
+  local text array of
+  text=$(tr '\n' ' ' <crates/"$1"/src/lib.rt | grep -o '#\[no_mangle\] *pub extern "C" fn [a-z0-9_]*([^)]*) -> i64')
+  while [[ $text =~ \&mut\ (([a-z_]+)::)?([A-Z][A-Za-z]*) ]]; do
+    array=${BASH_REMATCH[0]} of=${BASH_REMATCH[2]:-$1}
+    text=${text/"$array"/"[u32; $(size "$of" "${BASH_REMATCH[3]}")]"}
+  done
+  sed -e 's/.* fn \([a-z0-9_]*\)(\(.*\)) -> i64$/int64_t \1(\2);/' \
+    -e 's/[a-z]*: \[u32; \([0-9]*\)\]/uint32_t[\1]/g' -e 's/[a-z]*: &\[u\([0-9]*\)\]/const uint\1_t *, size_t/g' \
+    -e 's/[a-z]*: &mut \[u8\]/uint8_t *, size_t/g' -e 's/[a-z]*: u32/uint32_t/g' -e 's/, *);/);/' <<<"$text"
+}
+{ declared c_calls && declared c_frames; } >"$work/declared"
 { printf '#include "x2u.h"\n#ifdef __cplusplus\nextern "C" {\n#endif\n'; cat "$work/declared"; printf '#ifdef __cplusplus\n}\n#endif\n'; } >"$work/declared.c"
 cp "$work/declared.c" "$work/declared.cc"
 flags="-Iinclude -Wall -Wextra -Werror -pedantic"
@@ -48,9 +77,26 @@ check "x2u.h declares the functions as the source has them (C++)" g++ -std=c++11
 grep -o 'x2u_[a-z_]*(' "$work/declared" | sort >"$work/source"
 sed -n 's/^int64_t \(x2u_[a-z_]*(\).*/\1/p' include/x2u.h | sort >"$work/header"
 check "x2u.h declares no other function, and every one" diff "$work/source" "$work/header"
-sed -n 's/^    X2U_\([A-Z_]*\) = \([0-9]*\),* .*/\1 \2/p' include/x2u.h | grep -v '^MOST_' | sort >"$work/named"
+sed -n '/---- refusals/,/^};/s/^    X2U_\([A-Z_]*\) = \([0-9]*\),* .*/\1 \2/p' include/x2u.h | sort >"$work/named"
 sed -n 's/^pub const \([A-Z_]*\): u32 = \([0-9]*\);.*/\1 \2/p' crates/refusal/src/lib.rt | sort >"$work/refusals"
 check "x2u.h names refusals as document 01's table does" sh -c '[ -s "$1" ] && [ -z "$(comm -23 "$1" "$2")" ]' sh "$work/named" "$work/refusals"
+
+# each size of the header is the source's: a compiler that isn't told so doesn't compare the lengths of two parameters
+{
+  printf '#include "x2u.h"\n'
+  while read -r name words; do printf 'extern char same_%s[X2U_%s == %s ? 1 : -1];\n' "$name" "$name" "$words"; done <<END
+MOST_OCTETS $(const frame_layout MOST_OCTETS)
+MOST_RANGES $(size frame_layout RangeArray)
+FIELDS $(size c_calls FieldArray)
+CURSOR $(size c_calls CursorArray)
+RANGE $(size c_calls EndArray)
+MOST_RECORDS $(size keeper RecordArray)
+MOST_RUNS $(size keeper RunArray)
+WORDS $(size keeper WordArray)
+KEEPER 3 * $(size keeper RecordArray) + 2 * $(size keeper RunArray) + $(size keeper WordArray)
+END
+} >"$work/sizes.c"
+check "x2u.h has the sizes of the source" gcc -std=c99 $flags -fsyntax-only "$work/sizes.c"
 
 # ---- the archives: that for x86-64, of rt's own objects, and that for this processor
 

@@ -95,7 +95,7 @@ static const int of_status[] = {9, 22, 20, 4, 10, 0};
 /* Walks a frame's ranges from a cursor of any content. */
 static void walk(struct part *p, const uint8_t *frame, size_t length, uint32_t *cursor, uint32_t *range)
 {
-    uint32_t was[3], had[2];
+    uint32_t was[X2U_CURSOR], had[X2U_RANGE];
     unsigned steps = 0;
     for (;;) {
         memcpy(was, cursor, sizeof was);
@@ -119,13 +119,13 @@ static void walk(struct part *p, const uint8_t *frame, size_t length, uint32_t *
 static void look_at_all(struct part *p, const uint8_t *frame, size_t length)
 {
     static uint32_t *fields, *starts, *ends;
-    uint32_t plain[6], cursor[3], range[2];
+    uint32_t plain[X2U_FIELDS], cursor[X2U_CURSOR], range[X2U_RANGE];
     if (!fields) {
-        fields = guarded(6 * 4);
+        fields = guarded(X2U_FIELDS * 4);
         starts = guarded(X2U_MOST_RANGES * 4);
         ends = guarded(X2U_MOST_RANGES * 4);
     }
-    for (int i = 0; i < 6; i++) plain[i] = fields[i] = random_word();
+    for (int i = 0; i < X2U_FIELDS; i++) plain[i] = fields[i] = random_word();
     for (uint32_t i = 0; i < X2U_MOST_RANGES; i++) starts[i] = ends[i] = 0xA5000000u + i;
     int64_t kind = x2u_read(frame, length, plain);
     must(p, x2u_read_all(frame, length, fields, starts, ends) == kind && memcmp(plain, fields, sizeof plain) == 0, "read and read all agree");
@@ -142,9 +142,9 @@ static void look_at_all(struct part *p, const uint8_t *frame, size_t length)
 /* Reads octets that may be a frame, and walks them. */
 static void look(struct part *p, const uint8_t *frame, size_t length, uint32_t *fields, uint32_t *cursor, uint32_t *range)
 {
-    uint32_t had[6], was[3];
-    for (int i = 0; i < 6; i++) had[i] = fields[i] = random_word();
-    for (int i = 0; i < 3; i++) was[i] = cursor[i] = odd_word();
+    uint32_t had[X2U_FIELDS], was[X2U_CURSOR];
+    for (int i = 0; i < X2U_FIELDS; i++) had[i] = fields[i] = random_word();
+    for (int i = 0; i < X2U_CURSOR; i++) was[i] = cursor[i] = odd_word();
     int64_t kind = x2u_read(frame, length, fields), count = x2u_first_range(frame, length, cursor);
     must(p, kind <= 3 && (kind >= 0 || among(kind, of_read)), "read answers a type or a refusal");
     if (kind < 0) {
@@ -157,7 +157,7 @@ static void look(struct part *p, const uint8_t *frame, size_t length, uint32_t *
     }
     if (kind >= 0) walk(p, frame, length, cursor, range);
     look_at_all(p, frame, length);
-    for (int i = 0; i < 3; i++) cursor[i] = odd_word();
+    for (int i = 0; i < X2U_CURSOR; i++) cursor[i] = odd_word();
     walk(p, frame, length, cursor, range);
 }
 
@@ -165,7 +165,7 @@ static void look(struct part *p, const uint8_t *frame, size_t length, uint32_t *
 static void frames(void)
 {
     struct part p = {"octets of every length, any cursor", 0, 0};
-    uint32_t *fields = guarded(24), *cursor = guarded(12), *range = guarded(8);
+    uint32_t *fields = guarded(X2U_FIELDS * 4), *cursor = guarded(X2U_CURSOR * 4), *range = guarded(X2U_RANGE * 4);
     uint8_t *most = guarded(1100);
     for (size_t length = 0; length <= 1100; length++) {
         uint8_t *frame = most + 1100 - length;
@@ -209,7 +209,7 @@ static void buffers(void)
         must(&p, r < 0 || memcmp(buffer + r, was + r, room - (size_t)r) == 0, "octets behind a status stay");
         must(&p, r > 0 || memcmp(buffer, was, room) == 0, "a refusal leaves the buffer");
         if (r > 0) {
-            uint32_t fields[6];
+            uint32_t fields[X2U_FIELDS];
             int64_t kind = x2u_read(buffer, (size_t)r, fields);
             must(&p, kind == (form ? 2 : 1) && fields[0] == highest && fields[3] == (last != 0) && fields[4] == (n < m ? n : m), "what was written is read");
             must(&p, x2u_write_data(form ? 1 : 0, 7, one, sizeof one) == 6 && x2u_write_data(form, 7, buffer, room) == 6 && memcmp(one, buffer, 6) == 0,
@@ -220,6 +220,16 @@ static void buffers(void)
     must(&p, x2u_write_status(1, 2, 1, 2, 3, NULL, 0, NULL, 0, NULL, 0) == -X2U_ROOM, "no buffer is too short for a status");
     end(&p);
 }
+
+/* Where some words of a keeper stand in a block. */
+enum {
+    AT_LENGTH = X2U_AT_WORDS,
+    AT_BASE,
+    AT_REPORTED,
+    AT_CLOSED,
+    AT_RUNS,
+    AT_RECORDS
+};
 
 /* A call's answer on a keeper, and that a refusal changed nothing. */
 static void judge(struct part *p, const x2u_keeper *k, const x2u_keeper *was, int64_t r, int64_t most, const int *refusals, const char *what)
@@ -235,9 +245,9 @@ static void calls(struct part *p, x2u_keeper *k, uint8_t *all, size_t most)
     uint8_t before[X2U_MOST_OCTETS + 8];
     for (int turn = 0; turn < 4; turn++) {
         was = *k;
-        judge(p, k, &was, x2u_arrive(k, turn ? odd_word() : k->opaque[2049], odd_word()), 16777216, of_arrive, "an arrival answers");
+        judge(p, k, &was, x2u_arrive(k, turn ? odd_word() : k->opaque[AT_BASE], odd_word()), 16777216, of_arrive, "an arrival answers");
         was = *k;
-        judge(p, k, &was, x2u_confirm(k, turn % 2 ? odd_word() : k->opaque[random_word() % 512]), 0, of_confirm, "a confirm answers");
+        judge(p, k, &was, x2u_confirm(k, turn % 2 ? odd_word() : k->opaque[X2U_AT_NUMBERS + random_word() % X2U_MOST_RECORDS]), 0, of_confirm, "a confirm answers");
         was = *k;
         judge(p, k, &was, x2u_expire(k), 16777216, of_expire, "an expiry answers");
         was = *k;
@@ -248,7 +258,7 @@ static void calls(struct part *p, x2u_keeper *k, uint8_t *all, size_t most)
         judge(p, k, &was, r, X2U_MOST_OCTETS, of_status, "a status answers");
         must(p, r > 0 ? memcmp(buffer + r, before + r, room - (size_t)r) == 0 : memcmp(buffer, before, room) == 0, "only a frame's octets change");
         if (r > 0) {
-            uint32_t fields[6];
+            uint32_t fields[X2U_FIELDS];
             int64_t kind = x2u_read(buffer, (size_t)r, fields);
             must(p, kind == 1 || kind == 2, "what a keeper wrote is read as a status");
         }
@@ -264,19 +274,19 @@ static void keepers(void)
     static x2u_keeper was;
     uint8_t *all = guarded(most);
     for (int round = 0; round < 6000; round++) {
-        for (int i = 0; i < 2054; i++) k->opaque[i] = round % 3 ? odd_word() : random_word();
+        for (int i = 0; i < X2U_KEEPER; i++) k->opaque[i] = round % 3 ? odd_word() : random_word();
         if (round % 3 == 1) {
-            k->opaque[2048] = round % 2 ? 12 : 18;
-            k->opaque[2051] = 0;
-            k->opaque[2052] %= 300;
-            k->opaque[2053] %= 600;
+            k->opaque[AT_LENGTH] = round % 2 ? 12 : 18;
+            k->opaque[AT_CLOSED] = 0;
+            k->opaque[AT_RUNS] %= 300;
+            k->opaque[AT_RECORDS] %= 600;
         }
         if (round % 3 == 2) {
             was = *k;
             judge(&p, k, &was, x2u_open(k, odd_word(), odd_word(), odd_word()), 0, of_open, "an open answers");
             x2u_open(k, 12, odd_word() % 65536, odd_word() % 4096);
-            for (uint32_t n = 0; n < 20; n++) x2u_arrive(k, (k->opaque[2049] + 2 * n) % 65536, n);
-            k->opaque[random_word() % 3 ? 2048 + random_word() % 6 : random_word() % 2048] = odd_word();
+            for (uint32_t n = 0; n < 20; n++) x2u_arrive(k, (k->opaque[AT_BASE] + 2 * n) % 65536, n);
+            k->opaque[random_word() % 3 ? X2U_AT_WORDS + random_word() % X2U_WORDS : random_word() % X2U_AT_WORDS] = odd_word();
         }
         calls(&p, k, all, most);
     }
@@ -287,7 +297,7 @@ static void keepers(void)
 static void carries(struct part *p, x2u_keeper *k, uint32_t first, uint32_t n, uint32_t runs, uint32_t highest)
 {
     uint8_t *frame = guarded(X2U_MOST_OCTETS);
-    uint32_t fields[6], cursor[3], range[2];
+    uint32_t fields[X2U_FIELDS], cursor[X2U_CURSOR], range[X2U_RANGE];
     int64_t length = x2u_status(k, 1, 2, 0, frame, X2U_MOST_OCTETS);
     must(p, length > 0 && x2u_read(frame, (size_t)length, fields) == 1 && fields[0] == highest, "the highest of a status");
     must(p, x2u_first_range(frame, (size_t)length, cursor) == runs, "the runs of a status");
@@ -304,7 +314,7 @@ static void full(void)
     struct part p = {"full stores", 0, 0};
     enum { first = 65300, f = 2000 };
     x2u_keeper *k = guarded(sizeof *k);
-    for (int i = 0; i < 2054; i++) k->opaque[i] = random_word();
+    for (int i = 0; i < X2U_KEEPER; i++) k->opaque[i] = random_word();
     must(&p, x2u_open(k, 12, first, f) == 0, "open");
     for (uint32_t n = 1; n <= 511; n += 2) must(&p, x2u_arrive(k, (first + n) % 65536, f + n) == (n > 256), "every second number");
     must(&p, x2u_expire(k) == 128, "the rest is lost");
@@ -312,9 +322,9 @@ static void full(void)
     for (uint32_t n = 512; n <= 767; n++) must(&p, x2u_arrive(k, (first + n) % 65536, f + n) == (n == 513 ? -X2U_LATE : 0), "then each number");
     must(&p, x2u_arrive(k, (first + 768) % 65536, f + 768) == -X2U_RECORDS, "512 records are held");
     must(&p, x2u_confirm(k, (first + 767) % 65536) == 0 && x2u_confirm(k, (first + 1) % 65536) == 0, "confirm the last and the first");
-    carries(&p, k, first, 0, 162, f + 1);
+    carries(&p, k, first, 0, X2U_MOST_RANGES, f + 1);
     for (uint32_t n = 766; n >= 3; n -= n >= 512 ? 1 : 2) must(&p, x2u_confirm(k, (first + n) % 65536) == 0, "confirm the others");
-    carries(&p, k, first, 162, 94, f + 767);
+    carries(&p, k, first, X2U_MOST_RANGES, X2U_MOST_RUNS - X2U_MOST_RANGES, f + 767);
     end(&p);
 }
 

@@ -45,10 +45,11 @@ want=$(for _ in $(seq 1000); do printf '0\\t4660\\n1\\t120\\t65536\\t4096\\t0\\t
 for _ in $(seq 1000); do printf '001234000000\n110078000100000000100001000700090000\n'; done | lister | is 'many blocks' "$want"
 
 # garbage: an answer a line, and nothing else
-lines=$(head -c 300000 /dev/urandom | tee /tmp/lister.$$ | lister | wc -l)
-ends=$(tr -cd '\n' </tmp/lister.$$ | wc -c)
-[ "$(tail -c 1 /tmp/lister.$$ | od -An -tx1 | tr -d ' ')" = 0a ] || ends=$((ends + 1))
-rm -f /tmp/lister.$$
+garbage=$(mktemp)
+lines=$(head -c 300000 /dev/urandom | tee "$garbage" | lister | wc -l)
+ends=$(tr -cd '\n' <"$garbage" | wc -c)
+[ "$(tail -c 1 "$garbage" | od -An -tx1 | tr -d ' ')" = 0a ] || ends=$((ends + 1))
+rm -f "$garbage"
 if [ "$lines" = "$ends" ]; then passed=$((passed + 1)); else failed=$((failed + 1)); echo "lister: garbage: $lines answers to $ends lines"; fi
 
 echo "$passed passed, $failed failed"

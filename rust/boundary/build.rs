@@ -7,9 +7,10 @@ const FOLDER: &str = "X2U_ARCHIVES";
 
 fn main() {
     println!("cargo:rerun-if-env-changed={FOLDER}");
-    // In this order: folders are searched as they come, and the second has a part
-    // of the first archive under that archive's name.
-    for (feature, below, name) in [("PRODUCT", "", "x2u"), ("PROBE", "staticlib", "probe")] {
+    for (feature, below, name) in [
+        ("PRODUCT", "", "x2u"),
+        ("PROBE", "staticlib", "ledger_probe"),
+    ] {
         if env::var_os(format!("CARGO_FEATURE_{feature}")).is_some() {
             link(below, name);
         }

@@ -6,11 +6,13 @@ use mathlib.Core.Bool.{Bool, true, false}
 use mathlib.Core.List.{List, [], _∷_, _++_, map}
 use Prim.Native.Nat.{ℕ, _*_}
 use lib.ListN.{length, take, drop, replicate}
-use Rattle.layout.specs.Basics.{Outcome, done, refused}
-use Rattle.layout.specs.Frames.{Range, Status, Reading, data-of, status-of, refuse, Written, unwritten, readFrame, writeData, writeStatus}
-use Rattle.bearer.specs.Rule.{below}
+use Rattle.basics.specs.Basics.{Outcome, done, refused}
+use Rattle.frame_layout.specs.Frames.{Range, Status, Reading, data-of, status-of, refuse, Written, unwritten, readFrame, writeData, writeStatus}
 use Rattle.bearer.specs.Keeper as K
+use Rattle.bearer.specs.Keeper.{_with-runs_, _with-records_}
 use Rattle.bearer.specs.Ledger as G
+use Rattle.bearer.specs.Ledger.{_with-sent_, _with-entries_}
+use Rattle.bearer.specs.Rule.{below}
 
 -- a call on a secondary, and what it answers
 pub data Call : Type 0 where
@@ -105,24 +107,15 @@ over-rollover cs = arrives 65534 4095 (done 0) ∷ arrives 0 1 (done 0) ∷ expi
 
 -- a secondary that lists so many runs
 abbrev pub listing : ℕ → K.Keeper
-listing n = record { bits = 12; base = 1000; reported = 0; closed = false; runs = map (λ (i : ℕ). 2 * i to 2 * i) (below n); records = [] }
+listing n = K.freshKeeper 12 1000 1 with-runs map (λ (i : ℕ). 2 * i to 2 * i) (below n)
 
 -- a secondary that holds so many records
 abbrev pub recording : ℕ → K.Keeper
-recording n = record { bits = 12; base = 1000; reported = 0; closed = false; runs = []; records = map (λ (i : ℕ). record { number = i; pdcp = i; confirmed = false }) (below n) }
+recording n = K.freshKeeper 12 1000 1 with-records map (λ (i : ℕ). K.newRecord i i) (below n)
 
 -- a master that holds so many entries
 abbrev pub holding : ℕ → G.Ledger Unit
-holding n = record {
-  bits = 12;
-  next = 1000;
-  highest = 0;
-  sent = 999;
-  closed = false;
-  desired = 0;
-  minimum = 0;
-  entries = map (λ (i : ℕ). record { number = i; pdcp = i; fate = G.waiting; label = tt }) (below n);
-}
+holding n = G.freshLedger {A = Unit} 12 1000 1 with-sent 999 with-entries map (λ (i : ℕ). G.newEntry i i tt) (below n)
 
 -- ---- the table
 

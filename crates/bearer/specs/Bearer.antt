@@ -1,11 +1,7 @@
--- What both ends of a bearer share: its constants and its two number circles (document 01, "Two ends of one bearer").
+-- What both ends of a bearer share: document 01's limits, and what a call leaves.
 -- Assumes nothing.
-use mathlib.Core.Bool.{Bool}
-use Prim.Native.Nat.{ℕ, _+_, _-_, _/_, _%_, _^_}
-use lib.Dec.{eqb}
-use Rattle.circle.specs.Circle.{forward}
-use Rattle.layout.specs.Basics.{_and_, _or_, Outcome}
-use Rattle.layout.specs.Frames.{modulus}
+use Prim.Native.Nat.{ℕ}
+use Rattle.basics.specs.Basics.{Outcome, done, refused}
 
 -- ---- document 01's limits
 
@@ -25,39 +21,17 @@ mostRecords = 512
 abbrev pub mostEntries : ℕ
 mostEntries = 512
 
--- ---- the bearer's PDCP number length L, and what follows from it
-
--- L is 12, 15 or 18
-abbrev pub isLength : ℕ → Bool
-isLength L = eqb L 12 or eqb L 15 or eqb L 18
-
--- with 18 bits the form is long
-abbrev pub isLong : ℕ → Bool
-isLong L = eqb L 18
-
--- M: X2-U numbers are below it
-abbrev pub numbers : ℕ → ℕ
-numbers L = modulus (isLong L)
-
--- half of the X2-U numbers
-abbrev pub half : ℕ → ℕ
-half L = numbers L / 2
-
--- PDCP numbers are below it
-abbrev pub pdcps : ℕ → ℕ
-pdcps L = 2 ^ L
-
--- the PDCP number before f
-abbrev pub pdcpBefore : ℕ → ℕ → ℕ
-pdcpBefore L f = (f + (pdcps L - 1)) % pdcps L
-
--- forward from an X2-U number to another
-abbrev pub ahead : ℕ → ℕ → ℕ → ℕ
-ahead L a b = forward (numbers L) a b
-
 -- ---- what a call leaves
 
 -- a call's answer, and the state after it
 pub record After (S A : Type 0) : Type 0 where
   pub answer : Outcome A
   pub state : S
+
+-- a refusal answers its number, and leaves the state as it was
+abbrev pub refusing : {S A : Type 0} → ℕ → S → After S A
+refusing n s = record { answer = refused n; state = s }
+
+-- an accepted call answers, and leaves another state
+abbrev pub answering : {S A : Type 0} → A → S → After S A
+answering a s = record { answer = done a; state = s }

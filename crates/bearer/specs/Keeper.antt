@@ -1,19 +1,20 @@
 -- The secondary's machine: what each call answers and leaves, in every state (document 01, "The secondary's rule" and
 -- "Refusal numbers"). Numbers are on their circles; distances are forward from base. Every definition is total.
 --
--- What these mean on packet indexes that never roll over is proved apart (proofs/Meaning.antt): base is the lowest open
+-- What these mean on packet indexes that never roll over is proved apart (KeeperMeaning.antt): base is the lowest open
 -- number, the runs are the maximal runs of lost and unreported numbers, the records stand in sending order.
 -- Assumes nothing.
 use mathlib.Core.Bool.{Bool, true, false, not}
 use mathlib.Core.List.{List, [], _∷_, _++_, map}
-use Prim.Native.Nat.{ℕ, zero, suc, _+_, _-_, _/_, _%_, max}
+use Prim.Native.Nat.{ℕ, zero, suc, _+_, _-_, _/_, _%_}
 use lib.Dec.{ltb, leb, eqb}
 use lib.ListN.{length, getD, take, drop, set}
 use Rattle.circle.specs.Circle.{forward}
-use Rattle.layout.specs.Basics.{if_then_else_, _and_, _or_, Outcome, done, refused}
-use Rattle.layout.specs.Frames.{Range, Status, Written, mostRanges, writeStatus}
-use Rattle.bearer.specs.Bearer.{window, mostRuns, mostRecords, isLength, isLong, numbers, pdcps, pdcpBefore, After}
-use Rattle.bearer.specs.Losses.{beforeBase, fromOn, frontOf, firstBehind, topOf, offsets, fromBase, Gap, gaps, sizeOf, lowest, runOf, withRuns}
+use Rattle.basics.specs.Basics.{if_then_else_, _and_, _or_, Outcome, done, refused}
+use Rattle.frame_layout.specs.Frames.{Range, Status, Written, mostRanges, startsOf, endsOf, writeStatus}
+use Rattle.bearer.specs.Bearer.{window, mostRuns, mostRecords, After, refusing, answering}
+use Rattle.circle.specs.Lengths.{isLength, isLong, modulusOf, pdcps, pdcpBefore}
+use Rattle.bearer.specs.Losses.{beforeBase, floorBehind, placeIn, bearsBefore, topOf, offsets, aboveBase, Gap, lostBelow, sizeOf, lowest, raisedBase, newRuns, withRuns, goesBefore}
 
 -- a packet that arrived: its two numbers, and whether the handset has it
 pub record Record : Type 0 where
@@ -30,61 +31,107 @@ pub record Keeper : Type 0 where
   pub runs : List Range
   pub records : List Record
 
+-- a state whose parts that calls change are put anew; beside a fresh end, the one place that says every field
+abbrev pub changed : Keeper → ℕ → ℕ → Bool → List Range → List Record → Keeper
+changed k base reported closed runs records = record {
+  bits = k .bits;
+  base = base;
+  reported = reported;
+  closed = closed;
+  runs = runs;
+  records = records;
+}
+
+-- ... with another base
+infixl 20 _with-base_
+abbrev pub _with-base_ : Keeper → ℕ → Keeper
+_with-base_ k base = changed k base (k .reported) (k .closed) (k .runs) (k .records)
+
+-- ... with another reported highest
+infixl 20 _with-reported_
+abbrev pub _with-reported_ : Keeper → ℕ → Keeper
+_with-reported_ k reported = changed k (k .base) reported (k .closed) (k .runs) (k .records)
+
+-- ... closed or not
+infixl 20 _with-closed_
+abbrev pub _with-closed_ : Keeper → Bool → Keeper
+_with-closed_ k closed = changed k (k .base) (k .reported) closed (k .runs) (k .records)
+
+-- ... with other listed runs
+infixl 20 _with-runs_
+abbrev pub _with-runs_ : Keeper → List Range → Keeper
+_with-runs_ k runs = changed k (k .base) (k .reported) (k .closed) runs (k .records)
+
+-- ... with other records
+infixl 20 _with-records_
+abbrev pub _with-records_ : Keeper → List Record → Keeper
+_with-records_ k records = changed k (k .base) (k .reported) (k .closed) (k .runs) records
+
 -- ---- open
+
+-- a fresh end: base is the first number, and the reported highest the PDCP number before the first one
+abbrev pub freshKeeper : ℕ → ℕ → ℕ → Keeper
+freshKeeper L first f = record {
+  bits = L;
+  base = first;
+  reported = pdcpBefore L f;
+  closed = false;
+  runs = [];
+  records = [];
+}
 
 -- 7, 10, or a fresh end
 abbrev pub openKeeper : ℕ → ℕ → ℕ → Outcome Keeper
 openKeeper L first f =
     if not (isLength L) then refused 7 else
-    if not (ltb first (numbers L) and ltb f (pdcps L)) then refused 10 else
-    done (record { bits = L; base = first; reported = pdcpBefore L f; closed = false; runs = []; records = [] })
+    if not (ltb first (modulusOf L) and ltb f (pdcps L)) then refused 10 else
+    done (freshKeeper L first f)
 
 -- ---- the state, seen from base
 
--- M
-abbrev pub circle : Keeper → ℕ
-circle k = numbers (k .bits)
+-- the numbers of records
+abbrev pub numbersOf : List Record → List ℕ
+numbersOf rs = map (λ (r : Record). r .number) rs
 
 -- the numbers with records, in sending order
 abbrev pub held : Keeper → List ℕ
-held k = map (λ (r : Record). r .number) (k .records)
+held k = numbersOf (k .records)
 
 -- the starts of the listed runs
 abbrev pub starts : Keeper → List ℕ
-starts k = map (λ (r : Range). r .start) (k .runs)
+starts k = startsOf (k .runs)
+
+-- the ends of the listed runs
+abbrev pub ends : Keeper → List ℕ
+ends k = endsOf (k .runs)
 
 -- forward from floor to base: floor is the earliest of base, the listed numbers and the numbers with records
 abbrev pub floor : Keeper → ℕ
-floor k = max (firstBehind (circle k) (k .base) (starts k)) (firstBehind (circle k) (k .base) (held k))
+floor k = floorBehind (modulusOf (k .bits)) (k .base) (starts k) (held k)
 
 -- where among the records the number d forward from base belongs: in front of the last ones that are all past it
 abbrev pub placeOf : Keeper → ℕ → ℕ
-placeOf k d = frontOf (fromOn (circle k) (k .base) (suc d)) (held k)
+placeOf k d = placeIn (modulusOf (k .bits)) (k .base) (held k) d
 
 -- the record in front of that place bears the number already
 abbrev pub hasRecord : Keeper → ℕ → ℕ → Bool
-hasRecord k n zero = false
-hasRecord k n (suc i) = eqb (getD (held k) i 0) n
+hasRecord k n i = bearsBefore (held k) n i
 
 -- the distances from base of the records at or past it
 abbrev pub above : Keeper → List ℕ
-above k = offsets (circle k) (k .base) (fromBase (circle k) (k .base) (held k))
+above k = aboveBase (modulusOf (k .bits)) (k .base) (held k)
 
 -- what is given up below the distance l: each open number there is lost
 abbrev pub givenUp : Keeper → ℕ → List Gap
-givenUp k l = gaps 0 l (above k)
+givenUp k l = lostBelow (modulusOf (k .bits)) (k .base) (held k) l
 
 -- the listed runs when that is given up
 abbrev pub runsAfter : Keeper → ℕ → List Range
-runsAfter k l = withRuns (circle k) (k .runs) (map (runOf (circle k) (k .base)) (givenUp k l))
-
--- the number so far forward from base
-abbrev pub onward : Keeper → ℕ → ℕ
-onward k d = (k .base + d) % circle k
+runsAfter k l = withRuns (modulusOf (k .bits)) (k .runs) (newRuns (modulusOf (k .bits)) (k .base) (held k) l)
 
 -- the base when all below the distance l is given up, and the number at the distance top has a record
 abbrev pub baseAfter : Keeper → ℕ → ℕ → ℕ
-baseAfter k l top = onward k (lowest l (above k ++ (top ∷ [])))
+baseAfter k l top = raisedBase (modulusOf (k .bits)) (k .base) (above k) l top
 
 -- ---- arrival
 
@@ -92,58 +139,61 @@ baseAfter k l top = onward k (lowest l (above k ++ (top ∷ [])))
 abbrev pub limitOf : ℕ → ℕ
 limitOf d = suc d - window
 
--- the base after an arrival: it moves if the arrival is base itself, or if base is given up
+-- the base after an arrival at a distance, whose record stands at the place i of these numbers: it moves if the arrival is base itself,
+-- or if base is given up
+abbrev pub baseArrived : ℕ → ℕ → List ℕ → ℕ → ℕ → ℕ
+baseArrived M base ns i d =
+    if eqb d 0 then (base + lowest 1 (offsets M base (drop i ns))) % M else
+    if ltb d window then base else
+    raisedBase M base (aboveBase M base ns) (limitOf d) d
+
+-- the base after an arrival
 abbrev pub arrivedBase : Keeper → ℕ → ℕ → ℕ
-arrivedBase k i d =
-    if eqb d 0 then onward k (lowest 1 (offsets (circle k) (k .base) (drop i (held k)))) else
-    if ltb d window then k .base else
-    baseAfter k (limitOf d) d
+arrivedBase k i d = baseArrived (modulusOf (k .bits)) (k .base) (held k) i d
+
+-- the record of an arrival: the handset hasn't it yet
+abbrev pub newRecord : ℕ → ℕ → Record
+newRecord n p = record { number = n; pdcp = p; confirmed = false }
+
+-- records with one more, at the place i
+abbrev pub recordsWith : List Record → ℕ → Record → List Record
+recordsWith rs i r = take i rs ++ (r ∷ drop i rs)
 
 -- the state after an accepted arrival, whose record stands at the place i
 abbrev pub arrived : Keeper → ℕ → ℕ → ℕ → ℕ → Keeper
-arrived k n p i d = record {
-    bits = k .bits;
-    base = arrivedBase k i d;
-    reported = k .reported;
-    closed = k .closed;
-    runs = runsAfter k (limitOf d);
-    records = take i (k .records) ++ (record { number = n; pdcp = p; confirmed = false } ∷ drop i (k .records))
-  }
+arrived k n p i d = k with-base arrivedBase k i d with-runs runsAfter k (limitOf d) with-records recordsWith (k .records) i (newRecord n p)
 
 -- by the place i and the distance d: 12, 13, 14, 15, or how many became lost
 abbrev pub arriveAt : Keeper → ℕ → ℕ → ℕ → ℕ → After Keeper ℕ
 arriveAt k n p i d =
-    if hasRecord k n i then record { answer = refused 12; state = k } else
-    if leb (circle k / 2) (floor k + d) then record { answer = refused 13; state = k } else
-    if ltb mostRuns (length (runsAfter k (limitOf d))) then record { answer = refused 14; state = k } else
-    if leb mostRecords (length (k .records)) then record { answer = refused 15; state = k } else
-    record { answer = done (sizeOf (givenUp k (limitOf d))); state = arrived k n p i d }
+    if hasRecord k n i then refusing 12 k else
+    if leb (modulusOf (k .bits) / 2) (floor k + d) then refusing 13 k else
+    if ltb mostRuns (length (runsAfter k (limitOf d))) then refusing 14 k else
+    if leb mostRecords (length (k .records)) then refusing 15 k else
+    answering (sizeOf (givenUp k (limitOf d))) (arrived k n p i d)
 
 -- arrival of a number and a PDCP number: 9, 10, 11, and then by its place
 abbrev pub arrive : Keeper → ℕ → ℕ → After Keeper ℕ
 arrive k n p =
-    if k .closed then record { answer = refused 9; state = k } else
-    if not (ltb n (circle k) and ltb p (pdcps (k .bits))) then record { answer = refused 10; state = k } else
-    if beforeBase (circle k) (k .base) n then record { answer = refused 11; state = k } else
-    arriveAt k n p (placeOf k (forward (circle k) (k .base) n)) (forward (circle k) (k .base) n)
+    if k .closed then refusing 9 k else
+    if not (ltb n (modulusOf (k .bits)) and ltb p (pdcps (k .bits))) then refusing 10 k else
+    if beforeBase (modulusOf (k .bits)) (k .base) n then refusing 11 k else
+    arriveAt k n p (placeOf k (forward (modulusOf (k .bits)) (k .base) n)) (forward (modulusOf (k .bits)) (k .base) n)
 
 -- ---- expiry
 
 -- by how far the highest accepted is forward from base: 17, 14, or how many became lost
 abbrev pub expireBelow : Keeper → ℕ → After Keeper ℕ
 expireBelow k top =
-    if eqb top 0 then record { answer = refused 17; state = k } else
-    if ltb mostRuns (length (runsAfter k top)) then record { answer = refused 14; state = k } else
-    record {
-      answer = done (sizeOf (givenUp k top));
-      state = record { bits = k .bits; base = baseAfter k top top; reported = k .reported; closed = k .closed; runs = runsAfter k top; records = k .records }
-    }
+    if eqb top 0 then refusing 17 k else
+    if ltb mostRuns (length (runsAfter k top)) then refusing 14 k else
+    answering (sizeOf (givenUp k top)) (k with-base baseAfter k top top with-runs runsAfter k top)
 
 -- expiry: 9, and then by the highest accepted, which counts only at or past base
 abbrev pub expire : Keeper → After Keeper ℕ
 expire k =
-    if k .closed then record { answer = refused 9; state = k } else
-    expireBelow k (topOf (circle k) (k .base) (held k))
+    if k .closed then refusing 9 k else
+    expireBelow k (topOf (modulusOf (k .bits)) (k .base) (held k))
 
 -- ---- confirm
 
@@ -163,26 +213,22 @@ delivered r = record { number = r .number; pdcp = r .pdcp; confirmed = true }
 -- the record of n at the place i: 16 where n isn't before base or is confirmed already
 abbrev pub confirmAt : Keeper → ℕ → ℕ → After Keeper Unit
 confirmAt k n i =
-    if not (beforeBase (circle k) (k .base) n) or getD (k .records) i noRecord .confirmed then record { answer = refused 16; state = k } else
-    record {
-      answer = done tt;
-      state = record { bits = k .bits; base = k .base; reported = k .reported; closed = k .closed; runs = k .runs; records = set (k .records) i (delivered (getD (k .records) i noRecord)) }
-    }
+    if not (beforeBase (modulusOf (k .bits)) (k .base) n) or getD (k .records) i noRecord .confirmed then refusing 16 k else
+    answering tt (k with-records set (k .records) i (delivered (getD (k .records) i noRecord)))
 
 -- confirm of a number: 9, 10, 16, or its record is marked
 abbrev pub confirm : Keeper → ℕ → After Keeper Unit
 confirm k n =
-    if k .closed then record { answer = refused 9; state = k } else
-    if not (ltb n (circle k)) then record { answer = refused 10; state = k } else
-    if leb (length (held k)) (indexOf n (held k)) then record { answer = refused 16; state = k } else
+    if k .closed then refusing 9 k else
+    if not (ltb n (modulusOf (k .bits))) then refusing 10 k else
+    if leb (length (held k)) (indexOf n (held k)) then refusing 16 k else
     confirmAt k n (indexOf n (held k))
 
 -- ---- status
 
 -- a record that a status may let go: confirmed, and before the first run left out
 abbrev pub mayGo : Keeper → List Range → Record → Bool
-mayGo k [] r = r .confirmed
-mayGo k (x ∷ xs) r = r .confirmed and ltb (forward (circle k) (x .start) (k .base)) (forward (circle k) (r .number) (k .base))
+mayGo k left r = goesBefore (modulusOf (k .bits)) (k .base) (startsOf left) (r .number) (r .confirmed)
 
 -- how many elements at the front of a list have a property
 abbrev pub runWith : {A : Type 0} → (A → Bool) → List A → ℕ
@@ -201,30 +247,28 @@ highestOf k (suc i) = getD (k .records) i noRecord .pdcp
 -- what a status says
 abbrev pub statusNow : Keeper → ℕ → ℕ → Bool → Status
 statusNow k desired minimum final = record {
-    long = isLong (k .bits);
-    final = final;
-    highest = highestOf k (letGo k);
-    desired = desired;
-    minimum = minimum;
-    ranges = take mostRanges (k .runs)
-  }
+  long = isLong (k .bits);
+  final = final;
+  highest = highestOf k (letGo k);
+  desired = desired;
+  minimum = minimum;
+  ranges = take mostRanges (k .runs);
+}
 
 -- the state after a status: what it carried and what it let go are dropped, and Final closes
 abbrev pub reportedState : Keeper → Bool → Keeper
-reportedState k final = record {
-    bits = k .bits;
-    base = k .base;
-    reported = highestOf k (letGo k);
-    closed = final;
-    runs = drop mostRanges (k .runs);
-    records = drop (letGo k) (k .records)
-  }
+reportedState k final =
+    k with-reported highestOf k (letGo k) with-closed final with-runs drop mostRanges (k .runs) with-records drop (letGo k) (k .records)
 
 -- what a status leaves: its answer, the state and the caller's buffer
 pub record Reported : Type 0 where
   pub answer : Outcome ℕ
   pub state : Keeper
   pub buffer : List ℕ
+
+-- a refused status leaves the state and the buffer as they were
+abbrev pub unreported : ℕ → Keeper → List ℕ → Reported
+unreported n k d = record { answer = refused n; state = k; buffer = d }
 
 -- the state by the writer's answer: a refusal leaves it as it was
 abbrev pub stateBy : Keeper → Bool → Outcome ℕ → Keeper
@@ -235,9 +279,9 @@ stateBy k final (refused n) = k
 abbrev pub reportedAs : Keeper → Bool → Written → Reported
 reportedAs k final w = record { answer = w .answer; state = stateBy k final (w .answer); buffer = w .buffer }
 
--- a status: 9, 22, and then as the writer answers (20; 4 and 10 only in states that no calls reach: `StatusesFit` of Meaning.antt)
+-- a status: 9, 22, and then as the writer answers (20; 4 and 10 only in states that no calls reach: `StatusesFit` of KeeperMeaning.antt)
 abbrev pub status : Keeper → ℕ → ℕ → Bool → List ℕ → Reported
 status k desired minimum final d =
-    if k .closed then record { answer = refused 9; state = k; buffer = d } else
-    if final and ltb mostRanges (length (k .runs)) then record { answer = refused 22; state = k; buffer = d } else
+    if k .closed then unreported 9 k d else
+    if final and ltb mostRanges (length (k .runs)) then unreported 22 k d else
     reportedAs k final (writeStatus (statusNow k desired minimum final) d)

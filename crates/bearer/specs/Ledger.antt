@@ -5,13 +5,14 @@
 use mathlib.Core.Bool.{Bool, true, false, not}
 use mathlib.Core.List.{List, [], _∷_, _++_}
 use mathlib.Core.Option.{Option, none, some}
-use Prim.Native.Nat.{ℕ, suc, _+_, _-_, _/_, _%_}
+use Prim.Native.Nat.{ℕ, suc, _+_, _/_, _%_}
 use lib.Dec.{ltb, leb, eqb}
 use lib.ListN.{length, take, drop}
+use Rattle.basics.specs.Basics.{if_then_else_, _and_, _or_, alike, Outcome, done, refused}
 use Rattle.circle.specs.Circle.{forward}
-use Rattle.layout.specs.Basics.{if_then_else_, _and_, _or_, alike, Outcome, done, refused}
-use Rattle.layout.specs.Frames.{Range, Status, Reading, data-of, status-of, refuse, readFrame}
-use Rattle.bearer.specs.Bearer.{mostEntries, isLength, isLong, numbers, pdcps, pdcpBefore, After}
+use Rattle.circle.specs.Lengths.{isLength, isLong, modulusOf, pdcps, pdcpBefore}
+use Rattle.frame_layout.specs.Frames.{Range, Status, Reading, data-of, status-of, refuse, readFrame}
+use Rattle.bearer.specs.Bearer.{mostEntries, After, refusing, answering}
 
 -- what became of a packet that the master still holds
 pub data Fate : Type 0 where
@@ -37,14 +38,74 @@ pub record Ledger (A : Type 0) : Type 0 where
   pub minimum : ℕ
   pub entries : List (Entry A)
 
+-- an end with no entries: the last PDCP number sent is H
+abbrev pub fresh : {A : Type 0} → ℕ → ℕ → ℕ → Bool → Ledger A
+fresh L next highest closed = record {
+  bits = L;
+  next = next;
+  highest = highest;
+  sent = highest;
+  closed = closed;
+  desired = 0;
+  minimum = 0;
+  entries = [];
+}
+
+-- a ledger whose parts that calls change are put anew, under labels of any type; beside `fresh`, the one place that says every field
+abbrev pub changed : {A B : Type 0} → Ledger A → ℕ → ℕ → ℕ → Bool → ℕ → ℕ → List (Entry B) → Ledger B
+changed l next highest sent closed desired minimum entries = record {
+  bits = l .bits;
+  next = next;
+  highest = highest;
+  sent = sent;
+  closed = closed;
+  desired = desired;
+  minimum = minimum;
+  entries = entries;
+}
+
+-- ... with another next number
+infixl 20 _with-next_
+abbrev pub _with-next_ : {A : Type 0} → Ledger A → ℕ → Ledger A
+_with-next_ l next = changed l next (l .highest) (l .sent) (l .closed) (l .desired) (l .minimum) (l .entries)
+
+-- ... with another highest last accepted
+infixl 20 _with-highest_
+abbrev pub _with-highest_ : {A : Type 0} → Ledger A → ℕ → Ledger A
+_with-highest_ l highest = changed l (l .next) highest (l .sent) (l .closed) (l .desired) (l .minimum) (l .entries)
+
+-- ... with another last PDCP number sent
+infixl 20 _with-sent_
+abbrev pub _with-sent_ : {A : Type 0} → Ledger A → ℕ → Ledger A
+_with-sent_ l sent = changed l (l .next) (l .highest) sent (l .closed) (l .desired) (l .minimum) (l .entries)
+
+-- ... closed or not
+infixl 20 _with-closed_
+abbrev pub _with-closed_ : {A : Type 0} → Ledger A → Bool → Ledger A
+_with-closed_ l closed = changed l (l .next) (l .highest) (l .sent) closed (l .desired) (l .minimum) (l .entries)
+
+-- ... with the two sizes of a status
+infixl 20 _with-sizes-of_
+abbrev pub _with-sizes-of_ : {A : Type 0} → Ledger A → Status → Ledger A
+_with-sizes-of_ l s = changed l (l .next) (l .highest) (l .sent) (l .closed) (s .desired) (s .minimum) (l .entries)
+
+-- ... with other entries, whatever their labels
+infixl 20 _with-entries_
+abbrev pub _with-entries_ : {A B : Type 0} → Ledger A → List (Entry B) → Ledger B
+_with-entries_ l entries = changed l (l .next) (l .highest) (l .sent) (l .closed) (l .desired) (l .minimum) entries
+
 -- ---- open
+
+-- a fresh end: the first number is next, and both H and the last PDCP number sent are the one before the first PDCP number
+abbrev pub freshLedger : {A : Type 0} → ℕ → ℕ → ℕ → Ledger A
+freshLedger L first f = fresh L first (pdcpBefore L f) false
 
 -- 7, 10, or a fresh end
 abbrev pub openLedger : {A : Type 0} → ℕ → ℕ → ℕ → Outcome (Ledger A)
 openLedger L first f =
     if not (isLength L) then refused 7 else
-    if not (ltb first (numbers L) and ltb f (pdcps L)) then refused 10 else
-    done (record { bits = L; next = first; highest = pdcpBefore L f; sent = pdcpBefore L f; closed = false; desired = 0; minimum = 0; entries = [] })
+    if not (ltb first (modulusOf L) and ltb f (pdcps L)) then refused 10 else
+    done (freshLedger L first f)
 
 -- ---- send
 
@@ -64,27 +125,23 @@ withinHalf l p = ltb (fromHighest l p) (pdcps (l .bits) / 2)
 abbrev pub inOrder : {A : Type 0} → Ledger A → ℕ → Bool
 inOrder l p = pastLast l p and withinHalf l p
 
+-- the entry of a send: it waits
+abbrev pub newEntry : {A : Type 0} → ℕ → ℕ → A → Entry A
+newEntry n p a = record { number = n; pdcp = p; fate = waiting; label = a }
+
 -- the state after an accepted send
 abbrev pub sentState : {A : Type 0} → Ledger A → ℕ → A → Ledger A
-sentState l p a = record {
-    bits = l .bits;
-    next = (l .next + 1) % numbers (l .bits);
-    highest = l .highest;
-    sent = p;
-    closed = l .closed;
-    desired = l .desired;
-    minimum = l .minimum;
-    entries = l .entries ++ (record { number = l .next; pdcp = p; fate = waiting; label = a } ∷ [])
-  }
+sentState l p a =
+    l with-next (l .next + 1) % modulusOf (l .bits) with-sent p with-entries l .entries ++ (newEntry (l .next) p a ∷ [])
 
 -- send of a PDCP number: 9, 10, 35, 36, or the X2-U number given out
 abbrev pub send : {A : Type 0} → Ledger A → ℕ → A → After (Ledger A) ℕ
 send l p a =
-    if l .closed then record { answer = refused 9; state = l } else
-    if not (ltb p (pdcps (l .bits))) then record { answer = refused 10; state = l } else
-    if not (inOrder l p) then record { answer = refused 35; state = l } else
-    if leb mostEntries (length (l .entries)) then record { answer = refused 36; state = l } else
-    record { answer = done (l .next); state = sentState l p a }
+    if l .closed then refusing 9 l else
+    if not (ltb p (pdcps (l .bits))) then refusing 10 l else
+    if not (inOrder l p) then refusing 35 l else
+    if leb mostEntries (length (l .entries)) then refusing 36 l else
+    answering (l .next) (sentState l p a)
 
 -- ---- accepting a status
 
@@ -113,7 +170,7 @@ noteIn false e (some p) = some (record { entries = e ∷ p .entries; count = p .
 
 -- what is left of the ranges when the first number of the first one is found
 abbrev pub afterNumber : ℕ → Range → List Range → List Range
-afterNumber L r rs = if eqb (r .start) (r .end) then rs else record { start = (r .start + 1) % numbers L; end = r .end } ∷ rs
+afterNumber L r rs = if eqb (r .start) (r .end) then rs else record { start = (r .start + 1) % modulusOf L; end = r .end } ∷ rs
 
 -- the ranges' numbers, one after another, become lost where they are found among the waiting entries, in sending order;
 -- none where a number isn't found so
@@ -128,10 +185,11 @@ abbrev pub waitsFor : {A : Type 0} → ℕ → List (Entry A) → Bool
 waitsFor h [] = false
 waitsFor h (e ∷ es) = (waits e and eqb (e .pdcp) h) or waitsFor h es
 
--- an entry kept, or one freed, in front of what a pass did behind it
+-- an entry kept in front of what a pass did behind it
 abbrev pub kept : {A : Type 0} → Entry A → Passed A → Passed A
 kept e p = record { entries = e ∷ p .entries; count = p .count }
 
+-- an entry freed in front of it: counted, and gone
 abbrev pub counted : {A : Type 0} → Passed A → Passed A
 counted p = record { entries = p .entries; count = p .count + 1 }
 
@@ -153,45 +211,39 @@ pub record Accepted : Type 0 where
   pub lost : ℕ
   pub final : Bool
 
+-- what a status answers by which so many were freed and so many became lost
+abbrev pub countsOf : Status → ℕ → ℕ → Accepted
+countsOf s f n = record { freed = f; lost = n; final = s .final }
+
 -- the state after an accepted status
 abbrev pub acceptedState : {A : Type 0} → Ledger A → Status → List (Entry A) → Ledger A
-acceptedState l s es = record {
-    bits = l .bits;
-    next = l .next;
-    highest = s .highest;
-    sent = l .sent;
-    closed = s .final;
-    desired = s .desired;
-    minimum = s .minimum;
-    entries = es
-  }
+acceptedState l s es = l with-highest s .highest with-closed s .final with-sizes-of s with-entries es
 
 -- the ranges are applied, or were 33: then 34, or what is freed
 abbrev pub acceptMarked : {A : Type 0} → Ledger A → Status → Option (Passed A) → After (Ledger A) Accepted
-acceptMarked l s none = record { answer = refused 33; state = l }
+acceptMarked l s none = refusing 33 l
 acceptMarked l s (some m) =
-    if not (eqb (s .highest) (l .highest) or waitsFor (s .highest) (m .entries)) then record { answer = refused 34; state = l } else
-    record {
-      answer = done (record { freed = freed l (s .highest) (m .entries) .count; lost = m .count; final = s .final });
-      state = acceptedState l s (freed l (s .highest) (m .entries) .entries)
-    }
+    if not (eqb (s .highest) (l .highest) or waitsFor (s .highest) (m .entries)) then refusing 34 l else
+    answering
+    (countsOf s (freed l (s .highest) (m .entries) .count) (m .count))
+    (acceptedState l s (freed l (s .highest) (m .entries) .entries))
 
 -- a status of either form: 31, 32, and then its ranges and its highest
 abbrev pub acceptStatus : {A : Type 0} → Ledger A → Status → After (Ledger A) Accepted
 acceptStatus l s =
-    if not (alike (s .long) (isLong (l .bits))) then record { answer = refused 31; state = l } else
-    if leb (pdcps (l .bits)) (s .highest) then record { answer = refused 32; state = l } else
+    if not (alike (s .long) (isLong (l .bits))) then refusing 31 l else
+    if leb (pdcps (l .bits)) (s .highest) then refusing 32 l else
     acceptMarked l s (markLost (l .bits) (l .entries) (s .ranges))
 
 -- what was read: its refusal, 31 for a data frame, or a status
 abbrev pub acceptReading : {A : Type 0} → Ledger A → Reading → After (Ledger A) Accepted
-acceptReading l (data-of long n) = record { answer = refused 31; state = l }
+acceptReading l (data-of long n) = refusing 31 l
 acceptReading l (status-of s) = acceptStatus l s
-acceptReading l (refuse n) = record { answer = refused n; state = l }
+acceptReading l (refuse n) = refusing n l
 
 -- accepting any octets: 9, 1 to 6, 31, 32, 33, 34, or the counts
 abbrev pub accept : {A : Type 0} → Ledger A → List ℕ → After (Ledger A) Accepted
-accept l octets = if l .closed then record { answer = refused 9; state = l } else acceptReading l (readFrame octets)
+accept l octets = if l .closed then refusing 9 l else acceptReading l (readFrame octets)
 
 -- ---- take
 
@@ -205,22 +257,14 @@ pub record Taken : Type 0 where
   pub number : ℕ
   pub pdcp : ℕ
 
+-- those of an entry
+abbrev pub takenOf : {A : Type 0} → Entry A → Taken
+takenOf e = record { number = e .number; pdcp = e .pdcp }
+
 -- the entries from a place on: 38 for none, or the first of them, and the state without it
 abbrev pub takeFrom : {A : Type 0} → Ledger A → List (Entry A) → List (Entry A) → After (Ledger A) Taken
-takeFrom l front [] = record { answer = refused 38; state = l }
-takeFrom l front (e ∷ es) = record {
-    answer = done (record { number = e .number; pdcp = e .pdcp });
-    state = record {
-      bits = l .bits;
-      next = l .next;
-      highest = l .highest;
-      sent = l .sent;
-      closed = l .closed;
-      desired = l .desired;
-      minimum = l .minimum;
-      entries = front ++ es
-    }
-  }
+takeFrom l front [] = refusing 38 l
+takeFrom l front (e ∷ es) = answering (takenOf e) (l with-entries front ++ es)
 
 -- take: 38, or the two numbers
 abbrev pub takeOldest : {A : Type 0} → Ledger A → After (Ledger A) Taken

@@ -1,36 +1,41 @@
 -- What the master's machine means: every ledger that calls reach from open is as document 01 says, on packet indexes that never
--- roll over, whatever frames were accepted on the way. Packet i is the i-th accepted send. The statements are `LedgersMean`, `SendsMean`, `TakesMean` and
--- `StatusesMean`, at the end; they are proved in proofs/LedgerMeans.antt.
+-- roll over, whatever frames were accepted on the way. Packet i is the i-th accepted send. The statements are `LedgersMean`, `SendsMean`,
+-- `TakesMean` and `StatusesMean`, at the end; they are proved in proofs/Master/LedgerMeans.antt.
 -- Assumes nothing.
 use mathlib.Core.Path.{_≡_}
 use mathlib.Core.Bool.{true, false, not, Bool}
 use mathlib.Core.List.{List, [], _∷_, _++_, map}
 use Prim.Native.Nat.{ℕ, suc, _+_, _/_, _≤_, _<_}
 use lib.ListN.{length, getD}
+use Rattle.basics.specs.Basics.{if_then_else_, done, _or_}
 use Rattle.circle.specs.Circle.{forward}
-use Rattle.layout.specs.Basics.{if_then_else_, done, _or_}
-use Rattle.layout.specs.Frames.{Status, status-of, readFrame}
-use Rattle.bearer.specs.Bearer.{pdcps, mostEntries}
-use Rattle.bearer.specs.Ledger.{Entry, Ledger, Accepted, Taken, waits, asLost, openLedger, send, accept, takeOldest}
-use Rattle.bearer.specs.Demand3.{numberOf, packets, Rising, In, inRanges}
-use Rattle.bearer.specs.Meaning.{Each}
+use Rattle.circle.specs.Lengths.{pdcps}
+use Rattle.frame_layout.specs.Frames.{Status, status-of, readFrame}
+use Rattle.bearer.specs.Bearer.{mostEntries}
+use Rattle.bearer.specs.Ledger.{Entry, Ledger, Accepted, Taken, takenOf, waits, asLost, openLedger, send, accept, takeOldest}
+use Rattle.bearer.specs.Packets.{numberOf, packets, Rising, In, inRanges, Each}
 
 -- A ledger that calls reach from open, with the PDCP numbers of the accepted sends, and how many were freed and taken, added up
 -- from the answers. A status is any octets. Refused calls leave the ledger (the machine says so), so they are no steps here.
 pub data LedgerReached (L first f : ℕ) : Ledger ℕ → List ℕ → ℕ → ℕ → Type 0 where
+  -- a fresh end
   opened : {l : Ledger ℕ} → openLedger L first f ≡ done l → LedgerReached L first f l [] 0 0
+  -- a packet was sent
   sending : {l : Ledger ℕ} {sent : List ℕ} {freed taken : ℕ} (p n : ℕ) → LedgerReached L first f l sent freed taken
       → send l p (length sent) .answer ≡ done n → LedgerReached L first f (send l p (length sent) .state) (sent ++ (p ∷ [])) freed taken
+  -- octets were accepted
   accepting : {l : Ledger ℕ} {sent : List ℕ} {freed taken : ℕ} (octets : List ℕ) (a : Accepted) → LedgerReached L first f l sent freed taken
       → accept l octets .answer ≡ done a → LedgerReached L first f (accept l octets .state) sent (freed + a .freed) taken
+  -- an entry was taken
   taking : {l : Ledger ℕ} {sent : List ℕ} {freed taken : ℕ} (t : Taken) → LedgerReached L first f l sent freed taken
       → takeOldest l .answer ≡ done t → LedgerReached L first f (takeOldest l .state) sent freed (taken + 1)
 
--- the entries that wait, and those that are lost
+-- the entries that wait
 abbrev pub waitingIn : List (Entry ℕ) → List (Entry ℕ)
 waitingIn [] = []
 waitingIn (e ∷ es) = if waits e then e ∷ waitingIn es else waitingIn es
 
+-- the entries that are lost
 abbrev pub lostIn : List (Entry ℕ) → List (Entry ℕ)
 lostIn [] = []
 lostIn (e ∷ es) = if waits e then lostIn es else e ∷ lostIn es
@@ -41,6 +46,7 @@ pastHighest L l e = forward (pdcps L) (l .highest) (e .pdcp)
 
 -- ---- what a ledger means
 
+-- What a ledger means: sent are the PDCP numbers of the accepted sends, so many packets were freed, and so many taken.
 pub record LedgerMeans (L first : ℕ) (l : Ledger ℕ) (sent : List ℕ) (freed taken : ℕ) : Type 0 where
   -- the bearer's L
   pub same-length : l .bits ≡ L
@@ -83,6 +89,7 @@ pub data FreedBy (sent : List ℕ) (H h : ℕ) (es ds : List (Entry ℕ)) : Type
   frees-none : h ≡ H → ds ≡ es → FreedBy sent H h es ds
   frees-through : (g : ℕ) → In g (packets (waitingIn es)) → h ≡ getD sent g 0 → FreedThrough g es ds → FreedBy sent H h es ds
 
+-- What an accepted status means: the octets are those of a frame, by which entries become lost and are freed, and a is the answer.
 pub record StatusMeans (L : ℕ) (sent : List ℕ) (l : Ledger ℕ) (octets : List ℕ) (a : Accepted) : Type 0 where
   -- what was read
   pub frame : Status
@@ -104,7 +111,7 @@ pub record StatusMeans (L : ℕ) (sent : List ℕ) (l : Ledger ℕ) (octets : Li
 
 -- "Take removes the oldest lost entry and answers its two numbers. Once closed it takes the oldest entry, lost or waiting."
 pub data TakenFrom (closed : Bool) (t : Taken) : List (Entry ℕ) → List (Entry ℕ) → Type 0 where
-  this-one : (e : Entry ℕ) (es : List (Entry ℕ)) → closed or not (waits e) ≡ true → t ≡ record { number = e .number; pdcp = e .pdcp } → TakenFrom closed t (e ∷ es) es
+  this-one : (e : Entry ℕ) (es : List (Entry ℕ)) → closed or not (waits e) ≡ true → t ≡ takenOf e → TakenFrom closed t (e ∷ es) es
   passes-over : {es ds : List (Entry ℕ)} (e : Entry ℕ) → closed ≡ false → waits e ≡ true → TakenFrom closed t es ds → TakenFrom closed t (e ∷ es) (e ∷ ds)
 
 -- ---- the statements

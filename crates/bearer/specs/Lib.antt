@@ -3,6 +3,8 @@ pub mod Losses
 pub mod Keeper
 pub mod Ledger
 pub mod Rule
+pub mod Packets
+pub mod World
 pub mod Demand3
-pub mod Meaning
+pub mod KeeperMeaning
 pub mod LedgerMeaning

@@ -1,14 +1,14 @@
 -- Where numbers lie as seen from base, and what is given up: definitions on lists of numbers of a circle of M, for the
 -- secondary's machine (Keeper.antt). Distances are forward from base. Every definition is total.
 -- Assumes nothing.
-use mathlib.Core.Bool.{Bool, not}
+use mathlib.Core.Bool.{Bool, false, not}
 use mathlib.Core.List.{List, [], _∷_, _++_, map}
-use Prim.Native.Nat.{ℕ, suc, _+_, _-_, _/_, _%_}
+use Prim.Native.Nat.{ℕ, zero, suc, _+_, _-_, _/_, _%_, max}
 use lib.Dec.{ltb, leb, eqb}
-use lib.ListN.{drop}
+use lib.ListN.{getD, drop}
 use Rattle.circle.specs.Circle.{forward}
-use Rattle.layout.specs.Basics.{if_then_else_, _and_, _or_, all}
-use Rattle.layout.specs.Frames.{Range}
+use Rattle.basics.specs.Basics.{if_then_else_, _and_, _or_, all}
+use Rattle.frame_layout.specs.Frames.{Range}
 
 -- ---- where numbers lie
 
@@ -34,6 +34,19 @@ abbrev pub firstBehind : ℕ → ℕ → List ℕ → ℕ
 firstBehind M base [] = 0
 firstBehind M base (n ∷ ns) = behind M base n
 
+-- how far floor, the earliest of base and the first numbers of two lists, is behind base
+abbrev pub floorBehind : ℕ → ℕ → List ℕ → List ℕ → ℕ
+floorBehind M base ms ns = max (firstBehind M base ms) (firstBehind M base ns)
+
+-- where in a list the number d forward from base belongs: in front of the last ones that are all past it
+abbrev pub placeIn : ℕ → ℕ → List ℕ → ℕ → ℕ
+placeIn M base ns d = frontOf (fromOn M base (suc d)) ns
+
+-- the number in front of a place of a list is n
+abbrev pub bearsBefore : List ℕ → ℕ → ℕ → Bool
+bearsBefore ns n zero = false
+bearsBefore ns n (suc i) = eqb (getD ns i 0) n
+
 -- how far the last number of a list is forward from base; 0 for none, or for one before base
 abbrev pub topOf : ℕ → ℕ → List ℕ → ℕ
 topOf M base [] = 0
@@ -47,6 +60,10 @@ offsets M base ns = map (forward M base) ns
 -- those at the end of a list that all lie at or past base
 abbrev pub fromBase : ℕ → ℕ → List ℕ → List ℕ
 fromBase M base ns = drop (frontOf (fromOn M base 0) ns) ns
+
+-- how far those are forward from base
+abbrev pub aboveBase : ℕ → ℕ → List ℕ → List ℕ
+aboveBase M base ns = offsets M base (fromBase M base ns)
 
 -- ---- gaps between records, by their distances from base
 
@@ -68,6 +85,10 @@ abbrev pub gaps : ℕ → ℕ → List ℕ → List Gap
 gaps c l [] = gap c l
 gaps c l (o ∷ os) = (if outside c l o then [] else gap c o) ++ gaps (if outside c l o then c else suc o) l os
 
+-- what is given up below the distance l where these numbers have records: each open number there is lost
+abbrev pub lostBelow : ℕ → ℕ → List ℕ → ℕ → List Gap
+lostBelow M base ns l = gaps 0 l (aboveBase M base ns)
+
 -- how many numbers gaps hold
 abbrev pub sizeOf : List Gap → ℕ
 sizeOf [] = 0
@@ -78,19 +99,40 @@ abbrev pub lowest : ℕ → List ℕ → ℕ
 lowest c [] = c
 lowest c (o ∷ os) = lowest (if eqb o c then suc c else c) os
 
+-- the base when all below the distance l is given up, records lie at these distances, and one at the distance top
+abbrev pub raisedBase : ℕ → ℕ → List ℕ → ℕ → ℕ → ℕ
+raisedBase M base os l top = (base + lowest l (os ++ (top ∷ []))) % M
+
 -- ---- runs of lost numbers
 
 -- the numbers of a gap as a run
 abbrev pub runOf : ℕ → ℕ → Gap → Range
 runOf M base g = record { start = (base + g .from) % M; end = (base + (g .to - 1)) % M }
 
+-- gaps as runs
+abbrev pub runsOf : ℕ → ℕ → List Gap → List Range
+runsOf M base gs = map (runOf M base) gs
+
+-- the runs of what is given up below the distance l
+abbrev pub newRuns : ℕ → ℕ → List ℕ → ℕ → List Range
+newRuns M base ns l = runsOf M base (lostBelow M base ns l)
+
+-- a run with this start adjoins one with this end
+abbrev pub adjoins : ℕ → ℕ → ℕ → Bool
+adjoins M end start = eqb (forward M end start) 1
+
 -- runs in sending order and one more behind them: where it adjoins the last, the two are one run
 abbrev pub joined : ℕ → List Range → Range → List Range
 joined M [] r = r ∷ []
-joined M (x ∷ []) r = if eqb (forward M (x .end) (r .start)) 1 then record { start = x .start; end = r .end } ∷ [] else (x ∷ r ∷ [])
+joined M (x ∷ []) r = if adjoins M (x .end) (r .start) then record { start = x .start; end = r .end } ∷ [] else (x ∷ r ∷ [])
 joined M (x ∷ y ∷ ys) r = x ∷ joined M (y ∷ ys) r
 
 -- runs with new ones behind them: only the first of those can adjoin the last that was there
 abbrev pub withRuns : ℕ → List Range → List Range → List Range
 withRuns M runs [] = runs
 withRuns M runs (r ∷ rs) = joined M runs r ++ rs
+
+-- a number that is confirmed or not may go with a status if it is, and lies before the first run left out, by the starts of those
+abbrev pub goesBefore : ℕ → ℕ → List ℕ → ℕ → Bool → Bool
+goesBefore M base [] n confirmed = confirmed
+goesBefore M base (s ∷ ss) n confirmed = confirmed and ltb (forward M s base) (forward M n base)

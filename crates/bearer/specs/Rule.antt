@@ -3,14 +3,18 @@
 -- Assumes nothing.
 use mathlib.Core.Bool.{Bool, false, not}
 use mathlib.Core.List.{List, [], _∷_, _++_}
-use Prim.Native.Nat.{ℕ, zero, suc, _+_, _-_, max}
+use Prim.Native.Nat.{ℕ, zero, suc, _-_, max}
 use lib.Dec.{eqb}
-use Rattle.layout.specs.Basics.{if_then_else_, _and_, _or_}
+use Rattle.basics.specs.Basics.{if_then_else_, _and_, _or_}
 
 -- "Each number from the first on is open, received or lost": the received, and the lost in the order they were declared
 pub record Fates : Type 0 where
   pub received : List ℕ
   pub lost : List ℕ
+
+-- at first every packet is open
+abbrev pub allOpen : Fates
+allOpen = record { received = []; lost = [] }
 
 -- a packet is in a list
 abbrev pub isIn : ℕ → List ℕ → Bool

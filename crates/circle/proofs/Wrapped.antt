@@ -8,6 +8,7 @@ use lib.Bits.{bitAnd, and-mask}
 use lib.Pow.{pow-pos, pow-lt, mod-mod-pow}
 use Rattle.circle.specs.Circle.{forward, forward-on}
 
+-- a difference that wrapped, reduced to k bits
 pub wrapped : (k a b d : ℕ) → k ≤ 32 → (d + a) % 2 ^ 32 ≡ b → d % 2 ^ k ≡ forward (2 ^ k) a b
 wrapped k a b d h e =
     let whole : (32 - k) + k ≡ 32 = omega arith in

@@ -2,7 +2,7 @@
 -- "Forward from a to b" means (b - a) modulo M, or modulo 2^L for PDCP numbers.
 -- Assumes nothing.
 use mathlib.Core.Path.{_≡_, refl, sym, _∙_, ap}
-use Prim.Native.Nat.{ℕ, zero, suc, _+_, _-_, _%_, _^_, _≤_, _<_}
+use Prim.Native.Nat.{ℕ, zero, suc, _+_, _-_, _%_, _≤_, _<_}
 use native.Mathlib.Omega.{arith}
 use native.Mathlib.Nat.{mod-eq-of-lt, mod-lt, mod-mod, add-mod-mod, mod-add-mod, add-mod-right, add-assoc, add-comm}
 
@@ -15,10 +15,11 @@ module _ (M : ℕ) (pos : 0 < M) where
   pub forward-below : (a b : ℕ) → forward M a b < M
   forward-below a b = mod-lt (b % M + (M - a % M)) pos
 
-  -- a distance doesn't see whole turns of either number
+  -- a distance doesn't see whole turns of the number that it starts from
   pub forward-from : (a b : ℕ) → forward M (a % M) b ≡ forward M a b
   forward-from a b = rw (mod-mod a M)
 
+  -- nor of the one that it goes to
   pub forward-to : (a b : ℕ) → forward M a (b % M) ≡ forward M a b
   forward-to a b = rw (mod-mod b M)
 
@@ -37,17 +38,17 @@ module _ (M : ℕ) (pos : 0 < M) where
       mod-self = native.Mathlib.Nat.mod-self M
 
   -- forward over less than a turn
-  pub ahead : (a d : ℕ) → d < M → forward M a (a + d) ≡ d
-  ahead a d h = forward-on a d ∙ mod-eq-of-lt h
+  pub forward-short : (a d : ℕ) → d < M → forward M a (a + d) ≡ d
+  forward-short a d h = forward-on a d ∙ mod-eq-of-lt h
 
   -- forward from a number to one that lies d behind it: the rest of the turn
-  pub behind : (a d : ℕ) → 0 < d → d < M → forward M (a + d) a ≡ M - d
-  behind a d h g =
+  pub forward-back : (a d : ℕ) → 0 < d → d < M → forward M (a + d) a ≡ M - d
+  forward-back a d h g =
       let e : a + d + (M - d) ≡ a + M = omega arith in
       sym (forward-to (a + d) a)
       ∙ ap (λ (x : ℕ). forward M (a + d) x) (sym (add-mod-right a M) ∙ ap (λ (x : ℕ). x % M) (sym e))
       ∙ forward-to (a + d) (a + d + (M - d))
-      ∙ ahead (a + d) (M - d) (omega arith)
+      ∙ forward-short (a + d) (M - d) (omega arith)
 
   -- a, and its distance to b: b again
   pub forward-lands : (a b : ℕ) → b < M → (a + forward M a b) % M ≡ b
@@ -63,7 +64,7 @@ module _ (M : ℕ) (pos : 0 < M) where
 
   -- no distance from a number to itself
   pub forward-self : (a : ℕ) → forward M a a ≡ 0
-  forward-self a = ap (forward M a) (let e : a ≡ a + 0 = omega arith in e) ∙ ahead a 0 pos
+  forward-self a = ap (forward M a) (let e : a ≡ a + 0 = omega arith in e) ∙ forward-short a 0 pos
 
   -- and a number at no distance is the same
   pub forward-none : (a b : ℕ) → a < M → b < M → forward M a b ≡ 0 → a ≡ b
@@ -84,12 +85,12 @@ module _ (M : ℕ) (pos : 0 < M) where
       ∙ forward-from (a + x) ((a + y) % M)
       ∙ forward-to (a + x) (a + y)
       ∙ ap (forward M (a + x)) (let e : a + y ≡ a + x + (y - x) = omega arith in e)
-      ∙ ahead (a + x) (y - x) (omega arith)
+      ∙ forward-short (a + x) (y - x) (omega arith)
 
   -- a number's successor is one nearer to any other number
   pub one-nearer : (a b : ℕ) → a < M → b < M → (a ≡ b → ⊥) → forward M a b ≡ suc (forward M ((a + 1) % M) b)
   one-nearer a b ha hb apart =
-      let next : forward M a ((a + 1) % M) ≡ 1 = forward-to a (a + 1) ∙ ahead a 1 (omega arith) in
+      let next : forward M a ((a + 1) % M) ≡ 1 = forward-to a (a + 1) ∙ forward-short a 1 (omega arith) in
       let some-way : 0 < forward M a b = by (forward M a b) refl in
       let rest = forward-rest a ((a + 1) % M) b (mod-lt (a + 1) pos) hb (omega arith) in
       omega arith

@@ -1,4 +1,4 @@
--- The words: all six stored, and what a length L means.
+-- The words: all stored, and what a length L means.
 -- Assumes nothing.
 use mathlib.Core.Path.{_≡_, refl}
 use mathlib.Core.Bool.{Bool, true, false}
@@ -10,9 +10,8 @@ use lib.Dec.{eqb}
 use lib.ListN.{length, set}
 use borrow.Author.Tests.{eqb-true}
 use Rattle.circle.specs.Circle.{forward}
-use Rattle.layout.specs.Basics.{_or_}
-use Rattle.bearer.specs.Bearer.{isLength, pdcpBefore}
-use Rattle.keeper.specs.View.{lengthIn}
+use Rattle.basics.specs.Basics.{_or_}
+use Rattle.circle.specs.Lengths.{isLength, pdcpBefore, lengthIn}
 
 -- six stores write the whole
 pub stored : (w : List ℕ) (a b c d e f : ℕ) → length w ≡ 6 → set (set (set (set (set (set w 0 a) 1 b) 2 c) 3 d) 4 e) 5 f ≡ a ∷ b ∷ c ∷ d ∷ e ∷ f ∷ []
@@ -26,12 +25,13 @@ stored (_ ∷ _ ∷ _ ∷ _ ∷ _ ∷ _ ∷ []) a b c d e f h = refl
 stored (_ ∷ _ ∷ _ ∷ _ ∷ _ ∷ _ ∷ _ ∷ w) a b c d e f h = absurd (omega arith)
 
 -- a length is 12, 15 or 18
-pub length-cases : (L : ℕ) → isLength L ≡ true → (L ≡ 12) ⊎ ((L ≡ 15) ⊎ (L ≡ 18))
+length-cases : (L : ℕ) → isLength L ≡ true → (L ≡ 12) ⊎ ((L ≡ 15) ⊎ (L ≡ 18))
 length-cases L h = by-first (eqb L 12) refl h
   where
     by-second : (t : Bool) → eqb L 15 ≡ t → t or eqb L 18 ≡ true → (L ≡ 12) ⊎ ((L ≡ 15) ⊎ (L ≡ 18))
     by-second true e h = inr (inl (eqb-true L 15 e))
     by-second false e h = inr (inr (eqb-true L 18 h))
+
     by-first : (t : Bool) → eqb L 12 ≡ t → t or eqb L 15 or eqb L 18 ≡ true → (L ≡ 12) ⊎ ((L ≡ 15) ⊎ (L ≡ 18))
     by-first true e h = inl (eqb-true L 12 e)
     by-first false e h = by-second (eqb L 15) refl h

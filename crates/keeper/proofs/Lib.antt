@@ -2,12 +2,7 @@ pub mod Lengths
 pub mod Parts
 pub mod Ranges
 pub mod Records
-pub mod Letting
 pub mod Listing
-pub mod Given
-pub mod Judging
 pub mod Opening
-pub mod Arrays
-pub mod Confirming
-pub mod Reporting
+pub mod Changed
 pub mod Unique

@@ -1,66 +1,21 @@
--- New runs behind those that are listed: the first may join the last listed, and then the list is one shorter.
+-- What is lost, written to the slots behind the runs that are listed: the list with it.
 -- Assumes nothing.
 use mathlib.Core.Path.{_≡_, refl, sym, _∙_, ap}
-use mathlib.Core.Bool.{true, false}
-use mathlib.Core.List.{List, [], _∷_, _++_, append-nil, append-assoc}
-use Prim.Native.Nat.{ℕ, zero, suc, _+_, _-_, _≤_, _<_}
+use mathlib.Core.Bool.{Bool, true, false}
+use mathlib.Core.List.{List, [], _∷_, _++_, append-assoc}
+use Prim.Native.Nat.{ℕ, suc, _+_, _-_, _≤_, _<_}
 use native.Mathlib.Omega.{arith}
-use lib.ListN.{length, getD, set, take, drop, length-append, length-map}
+use lib.ListN.{length, getD, set, take, drop, length-append, length-map, length-take}
 use lib.Seq.{set-set, set-getD, set-comm, take-suc, take-take, getD-take, take-at, length-take-le, sets, sets-eq}
-use Rattle.layout.specs.Frames.{Range, rangesOf}
-use Rattle.bearer.specs.Losses.{joined, withRuns}
-use Rattle.keeper.specs.Plans.{startsIn, endsIn, adjoinsLast, adjoins}
-use Rattle.keeper.proofs.Ranges.{ranges-take, ranges-append, ranges-own, starts-own, ranges-length}
-
--- ---- one more run
-
-joined-apart : (M : ℕ) (runs : List Range) (r : Range) → adjoinsLast M (endsIn runs) (r .start) ≡ false → joined M runs r ≡ runs ++ (r ∷ [])
-joined-apart M [] r h = refl
-joined-apart M (x ∷ []) r h = rw h
-joined-apart M (x ∷ y ∷ ys) r h = ap (λ (l : List Range). x ∷ l) (joined-apart M (y ∷ ys) r h)
-
-joined-last : (M : ℕ) (runs : List Range) (r : Range) (i : ℕ) → i + 1 ≡ length runs → adjoinsLast M (endsIn runs) (r .start) ≡ true
-    → joined M runs r ≡ take i runs ++ (record { start = getD (startsIn runs) i 0; end = r .end } ∷ [])
-joined-last M [] r i l h = absurd (omega arith)
-joined-last M (x ∷ []) r i l h = let z : i ≡ 0 = omega arith in rw (h, z)
-joined-last M (x ∷ y ∷ ys) r zero l h = absurd (omega arith)
-joined-last M (x ∷ y ∷ ys) r (suc i) l h = ap (λ (l : List Range). x ∷ l) (joined-last M (y ∷ ys) r i (omega arith) h)
-
--- ---- new runs
-
-adjoins-some : (M : ℕ) (es : List ℕ) (start : ℕ) → adjoinsLast M es start ≡ true → 0 < length es
-adjoins-some M [] start h = let z : _≡_ {A = ℕ} 0 1 = cc in omega arith
-adjoins-some M (e ∷ es) start h = omega arith
-
-pub adjoins-listed : (M : ℕ) (es : List ℕ) (new : List Range) → adjoins M es new ≡ true → 0 < length es
-adjoins-listed M es [] h = let z : _≡_ {A = ℕ} 0 1 = cc in absurd (omega arith)
-adjoins-listed M es (r ∷ rs) h = adjoins-some M es (r .start) h
-
-pub with-apart : (M : ℕ) (runs new : List Range) → adjoins M (endsIn runs) new ≡ false → withRuns M runs new ≡ runs ++ new
-with-apart M runs [] h = sym (append-nil runs)
-with-apart M runs (r ∷ rs) h = rw (joined-apart M runs r h) (append-assoc runs (r ∷ []) rs)
-
-with-joined : (M : ℕ) (runs : List Range) (r : Range) (rs : List Range) (i : ℕ) → i + 1 ≡ length runs → adjoins M (endsIn runs) (r ∷ rs) ≡ true
-    → withRuns M runs (r ∷ rs) ≡ take i runs ++ (record { start = getD (startsIn runs) i 0; end = r .end } ∷ rs)
-with-joined M runs r rs i l h =
-    let x : Range = record { start = getD (startsIn runs) i 0; end = r .end } in
-    rw (joined-last M runs r i l h) (append-assoc (take i runs) (x ∷ []) rs)
-
--- how many runs are listed then
-pub count-apart : (M : ℕ) (runs new : List Range) → adjoins M (endsIn runs) new ≡ false → length (withRuns M runs new) ≡ length runs + length new
-count-apart M runs new h = rw (with-apart M runs new h) (length-append runs new)
-
-pub count-joined : (M : ℕ) (runs new : List Range) → adjoins M (endsIn runs) new ≡ true → length (withRuns M runs new) + 1 ≡ length runs + length new
-count-joined M runs [] h = let z : _≡_ {A = ℕ} 0 1 = cc in absurd (omega arith)
-count-joined M runs (r ∷ rs) h =
-    let some : 0 < length runs = omega (arith, adjoins-some M (endsIn runs) (r .start) h, length-map runs (λ (r : Range). r .end)) in
-    let i = length runs - 1 in
-    let x : Range = record { start = getD (startsIn runs) i 0; end = r .end } in
-    let whole = length-append (take i runs) (x ∷ rs) in
-    let front : length (take i runs) ≡ i = length-take-le i runs (omega arith) in
-    rw (with-joined M runs r rs i (omega arith) h) (omega arith)
-
--- ---- the runs in their slots
+use Rattle.basics.specs.Basics.{bit}
+use Rattle.frame_layout.specs.Frames.{Range, rangesOf, startsOf, endsOf}
+use Rattle.bearer.specs.Losses.{Gap, gaps, offsets, runsOf, newRuns, withRuns}
+use Rattle.keeper_judge.specs.declared.Losses.{Losses}
+use Rattle.keeper_judge.specs.Judgements.{firstAdjoins, Losing}
+use Rattle.keeper_judge.proofs.Ranges.{ranges-take, ranges-append, ranges-own, ranges-count, starts-listed}
+use Rattle.keeper_judge.proofs.Joining.{adjoins-listed, with-apart, with-joined, count-apart, count-joined}
+use Rattle.keeper_judge.proofs.Given.{same-gaps}
+use Rattle.keeper.specs.Steps.{Lists}
 
 -- runs in the front slots
 in-front : (ss es ss' es' : List ℕ) (rs : List Range) → length ss ≡ length es → rangesOf ss es ≡ rs → take (length rs) (rangesOf (ss ++ ss') (es ++ es')) ≡ rs
@@ -80,55 +35,105 @@ module _ (M : ℕ) (ss es : List ℕ) (n : ℕ) (within : n ≤ length ss) (alik
   listed = take n (rangesOf ss es)
 
   count-listed : length listed ≡ n
-  count-listed = length-take-le n (rangesOf ss es) (omega (arith, ranges-length ss es alike))
+  count-listed = omega (arith, length-take n (rangesOf ss es), ranges-count ss es)
 
-  fs : (i : ℕ) → i ≤ n → length (take i ss) ≡ i
-  fs i h = length-take-le i ss (omega arith)
+  first-starts : (i : ℕ) → i ≤ n → length (take i ss) ≡ i
+  first-starts i h = length-take-le i ss (omega arith)
 
-  fe : (i : ℕ) → i ≤ n → length (take i es) ≡ i
-  fe i h = length-take-le i es (omega arith)
+  first-ends : (i : ℕ) → i ≤ n → length (take i es) ≡ i
+  first-ends i h = length-take-le i es (omega arith)
 
-  ls : (new : List Range) → length (startsIn new) ≡ length new
-  ls new = length-map new (λ (r : Range). r .start)
+  count-starts : (new : List Range) → length (startsOf new) ≡ length new
+  count-starts new = length-map new (λ (r : Range). r .start)
 
-  le : (new : List Range) → length (endsIn new) ≡ length new
-  le new = length-map new (λ (r : Range). r .end)
+  count-ends : (new : List Range) → length (endsOf new) ≡ length new
+  count-ends new = length-map new (λ (r : Range). r .end)
 
   -- new ones behind the last
-  pub listed-behind : (new : List Range) → adjoins M (endsIn listed) new ≡ false → length (withRuns M listed new) ≤ length ss
-      → take (length (withRuns M listed new)) (rangesOf (sets ss n (startsIn new)) (sets es n (endsIn new))) ≡ withRuns M listed new
+  listed-behind : (new : List Range) → firstAdjoins M (endsOf listed) new ≡ false → length (withRuns M listed new) ≤ length ss
+      → take (length (withRuns M listed new)) (rangesOf (sets ss n (startsOf new)) (sets es n (endsOf new))) ≡ withRuns M listed new
   listed-behind new apart few =
       let count = count-apart M listed new apart in
-      let both : length (take n ss ++ startsIn new) ≡ length (take n es ++ endsIn new) =
-        simp length-append (omega (arith, fs n (omega arith), fe n (omega arith), ls new, le new)) in
-      let is : rangesOf (take n ss ++ startsIn new) (take n es ++ endsIn new) ≡ withRuns M listed new =
-        ranges-append (take n ss) (take n es) (startsIn new) (endsIn new) (omega (arith, fs n (omega arith), fe n (omega arith)))
-        ∙ rw (← ranges-take n ss es, ranges-own new, with-apart M listed new apart) in
-      rw (sets-eq (startsIn new) ss n (omega (arith, count-listed, ls new)), sets-eq (endsIn new) es n (omega (arith, count-listed, le new)))
-      (in-front (take n ss ++ startsIn new) (take n es ++ endsIn new) (drop (n + length (startsIn new)) ss) (drop (n + length (endsIn new)) es) (withRuns M listed new) both is)
+      let both : length (take n ss ++ startsOf new) ≡ length (take n es ++ endsOf new) =
+      simp length-append (omega (arith, first-starts n (omega arith), first-ends n (omega arith), count-starts new, count-ends new)) in
+      let is : rangesOf (take n ss ++ startsOf new) (take n es ++ endsOf new) ≡ withRuns M listed new =
+      ranges-append (take n ss) (take n es) (startsOf new) (endsOf new) (omega (arith, first-starts n (omega arith), first-ends n (omega arith)))
+      ∙ rw (← ranges-take n ss es, ranges-own new, with-apart M listed new apart) in
+      rw (sets-eq (startsOf new) ss n (omega (arith, count-listed, count-starts new)), sets-eq (endsOf new) es n (omega (arith, count-listed, count-ends new)))
+      (in-front (take n ss ++ startsOf new) (take n es ++ endsOf new) (drop (n + length (startsOf new)) ss) (drop (n + length (endsOf new)) es) (withRuns M listed new) both is)
 
   -- the first of them joins the last, which keeps its start
-  pub listed-joined : (new : List Range) → adjoins M (endsIn listed) new ≡ true → length (withRuns M listed new) ≤ length ss
-      → take (length (withRuns M listed new)) (rangesOf (set (sets ss (n - 1) (startsIn new)) (n - 1) (getD ss (n - 1) 0)) (sets es (n - 1) (endsIn new))) ≡ withRuns M listed new
+  listed-joined : (new : List Range) → firstAdjoins M (endsOf listed) new ≡ true → length (withRuns M listed new) ≤ length ss
+      → take (length (withRuns M listed new)) (rangesOf (set (sets ss (n - 1) (startsOf new)) (n - 1) (getD ss (n - 1) 0)) (sets es (n - 1) (endsOf new))) ≡ withRuns M listed new
   listed-joined [] join few = let z : _≡_ {A = ℕ} 0 1 = cc in absurd (omega arith)
   listed-joined (r ∷ rs) join few =
-      let some : 0 < n = omega (arith, adjoins-some M (endsIn listed) (r .start) join, le listed, count-listed) in
+      let some : 0 < n = omega (arith, adjoins-listed M (endsOf listed) (r ∷ rs) join, count-ends listed, count-listed) in
       let i = n - 1 in
       let last : suc i ≡ n = omega arith in
       let count = count-joined M listed (r ∷ rs) join in
       let x : Range = record { start = getD ss i 0; end = r .end } in
       let cut : take n ss ≡ take i ss ++ (getD ss i 0 ∷ []) = rw last at (take-suc ss i 0 (omega arith)) in
-      let starts-cut : take n ss ++ startsIn rs ≡ take i ss ++ (getD ss i 0 ∷ startsIn rs) =
-        ap (λ (l : List ℕ). l ++ startsIn rs) cut ∙ append-assoc (take i ss) (getD ss i 0 ∷ []) (startsIn rs) in
+      let starts-cut : take n ss ++ startsOf rs ≡ take i ss ++ (getD ss i 0 ∷ startsOf rs) =
+      ap (λ (l : List ℕ). l ++ startsOf rs) cut ∙ append-assoc (take i ss) (getD ss i 0 ∷ []) (startsOf rs) in
       let front : take i listed ≡ rangesOf (take i ss) (take i es) = take-take i n (rangesOf ss es) (omega arith) ∙ ranges-take i ss es in
-      let start : getD (startsIn listed) i 0 ≡ getD ss i 0 =
-        rw (ranges-take n ss es, starts-own (take n ss) (take n es) (omega (arith, fs n (omega arith), fe n (omega arith)))) (getD-take n ss i 0 (omega arith)) in
+      let start : getD (startsOf listed) i 0 ≡ getD ss i 0 = rw (starts-listed n ss es within (omega arith)) (getD-take n ss i 0 (omega arith)) in
       let runs : withRuns M listed (r ∷ rs) ≡ rangesOf (take i ss) (take i es) ++ (x ∷ rs) =
-        with-joined M listed r rs i (omega (arith, count-listed)) join ∙ rw (front, start) in
-      let is : rangesOf (take i ss ++ (getD ss i 0 ∷ startsIn rs)) (take i es ++ (r .end ∷ endsIn rs)) ≡ withRuns M listed (r ∷ rs) =
-        ranges-append (take i ss) (take i es) (getD ss i 0 ∷ startsIn rs) (r .end ∷ endsIn rs) (omega (arith, fs i (omega arith), fe i (omega arith)))
-        ∙ rw (ranges-own rs, runs) in
-      let both : length (take i ss ++ (getD ss i 0 ∷ startsIn rs)) ≡ length (take i es ++ (r .end ∷ endsIn rs)) =
-        simp length-append (omega (arith, fs i (omega arith), fe i (omega arith), ls rs, le rs)) in
-      rw (kept ss (startsIn rs) i (r .start), last, sets-eq (startsIn rs) ss n (omega (arith, count-listed, ls rs)), sets-eq (endsIn (r ∷ rs)) es i (omega (arith, count-listed, le rs)), starts-cut)
-      (in-front (take i ss ++ (getD ss i 0 ∷ startsIn rs)) (take i es ++ (r .end ∷ endsIn rs)) _ _ (withRuns M listed (r ∷ rs)) both is)
+      with-joined M listed r rs i (omega (arith, count-listed)) join ∙ rw (front, start) in
+      let is : rangesOf (take i ss ++ (getD ss i 0 ∷ startsOf rs)) (take i es ++ (r .end ∷ endsOf rs)) ≡ withRuns M listed (r ∷ rs) =
+      ranges-append (take i ss) (take i es) (getD ss i 0 ∷ startsOf rs) (r .end ∷ endsOf rs) (omega (arith, first-starts i (omega arith), first-ends i (omega arith)))
+      ∙ rw (ranges-own rs, runs) in
+      let both : length (take i ss ++ (getD ss i 0 ∷ startsOf rs)) ≡ length (take i es ++ (r .end ∷ endsOf rs)) =
+      simp length-append (omega (arith, first-starts i (omega arith), first-ends i (omega arith), count-starts rs, count-ends rs)) in
+      rw (
+        kept ss (startsOf rs) i (r .start),
+        last,
+        sets-eq (startsOf rs) ss n (omega (arith, count-listed, count-starts rs)),
+        sets-eq (endsOf (r ∷ rs)) es i (omega (arith, count-listed, count-ends rs)),
+        starts-cut,
+      )
+      (in-front (take i ss ++ (getD ss i 0 ∷ startsOf rs)) (take i es ++ (r .end ∷ endsOf rs)) _ _ (withRuns M listed (r ∷ rs)) both is)
+
+-- ---- what is lost, listed
+
+module _ {lost : Losses} {M base : ℕ} {ns ss es : List ℕ} {n : ℕ} (h : Lists lost M base ns ss es n) where
+  -- the gaps that a pass over the numbers from `from` on finds
+  abbrev passed : List Gap
+  passed = gaps 0 (lost .limit) (offsets M base (drop (lost .from) ns))
+
+  -- what joins has one to join
+  pub lists-some : (t : Bool) → lost .joins ≡ t → bit t ≤ n
+  lists-some false e = omega arith
+  lists-some true e =
+      let runs = take n (rangesOf ss es) in
+      let some = adjoins-listed M (endsOf runs) (newRuns M base ns (lost .limit)) (sym (h .losing .joins-is) ∙ e) in
+      omega (arith, some, length-map runs (λ (r : Range). r .end), length-take n (rangesOf ss es))
+
+  -- written from a slot on
+  module _ (at : ℕ) (at-is : at ≡ n - bit (lost .joins)) (ss' es' : List ℕ) (e-starts : ss' ≡ sets ss at (startsOf (runsOf M base passed)))
+      (e-ends : es' ≡ sets es at (endsOf (runsOf M base passed))) where
+    -- the first joins, and the slot keeps its start
+    pub lists-joined : lost .joins ≡ true → (start : ℕ) → start ≡ getD ss at 0
+        → take (lost .runs) (rangesOf (set ss' at start) es') ≡ withRuns M (take n (rangesOf ss es)) (newRuns M base ns (lost .limit))
+    lists-joined e start start-is =
+        let l = h .losing in
+        let slot : at ≡ n - 1 = at-is ∙ rw e in
+        rw (e-starts, e-ends, start-is, slot, same-gaps (l .reaches), l .runs-are)
+        (listed-joined M ss es n (h .within) (h .alike) (newRuns M base ns (lost .limit)) (sym (l .joins-is) ∙ e) (omega (arith, l .runs-are, h .few)))
+
+    -- it doesn't
+    pub lists-behind : lost .joins ≡ false → take (lost .runs) (rangesOf ss' es') ≡ withRuns M (take n (rangesOf ss es)) (newRuns M base ns (lost .limit))
+    lists-behind e =
+        let l = h .losing in
+        let slot : at ≡ n = at-is ∙ rw e (omega arith) in
+        rw (e-starts, e-ends, slot, same-gaps (l .reaches), l .runs-are)
+        (listed-behind M ss es n (h .within) (h .alike) (newRuns M base ns (lost .limit)) (sym (l .joins-is) ∙ e) (omega (arith, l .runs-are, h .few)))
+
+-- ---- the same, of terms that are equal
+
+module _ {M M' n n' : ℕ} {ns ns' : List ℕ} (base : ℕ) (e : M' ≡ M) (f : ns' ≡ ns) (g : n' ≡ n) where
+  pub lists-of : {lost : Losses} (ss es : List ℕ) → Losing lost M base ns (take n (rangesOf ss es)) → n ≤ length ss → length ss ≡ length es → lost .runs ≤ length ss
+      → Lists lost M' base ns' ss es n'
+  lists-of ss es losing within alike few = rw (e, f, g) (record { losing = losing; within = within; alike = alike; few = few })
+
+  pub runs-of : (runs : List Range) (l : ℕ) → withRuns M' (take n' runs) (newRuns M' base ns' l) ≡ withRuns M (take n runs) (newRuns M base ns l)
+  runs-of runs l = rw (e, f, g)

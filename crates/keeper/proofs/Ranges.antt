@@ -1,58 +1,20 @@
--- Starts and ends as runs: parts of the two lists are parts of the runs.
+-- The first runs of starts and ends, when both lists lose those that a status carries.
 -- Assumes nothing.
-use mathlib.Core.Path.{_≡_, refl, sym, ap}
-use mathlib.Core.List.{List, [], _∷_, _++_}
-use Prim.Native.Nat.{ℕ, zero, suc, _-_}
+use mathlib.Core.Path.{_≡_, sym, _∙_}
+use mathlib.Core.List.{List}
+use Prim.Native.Nat.{ℕ, _-_, min}
 use native.Mathlib.Omega.{arith}
-use lib.ListN.{length, take, drop}
-use Rattle.layout.specs.Frames.{Range, rangesOf}
-use Rattle.keeper.specs.Plans.{startsIn, endsIn}
+use lib.ListN.{take, drop}
+use Rattle.frame_layout.specs.Frames.{rangesOf, mostRanges}
+use Rattle.bearer.specs.Bearer.{mostRuns}
+use Rattle.keeper_judge.proofs.Ranges.{ranges-take, ranges-drop}
+use Rattle.keeper.proofs.Parts.{drop-both}
 
-pub ranges-take : (n : ℕ) (ss es : List ℕ) → take n (rangesOf ss es) ≡ rangesOf (take n ss) (take n es)
-ranges-take zero ss es = refl
-ranges-take (suc n) [] es = refl
-ranges-take (suc n) (s ∷ ss) [] = refl
-ranges-take (suc n) (s ∷ ss) (e ∷ es) = ap (λ (rs : List Range). record { start = s; end = e } ∷ rs) (ranges-take n ss es)
-
-ranges-nothing : (ss : List ℕ) → rangesOf ss [] ≡ []
-ranges-nothing [] = refl
-ranges-nothing (s ∷ ss) = refl
-
-pub ranges-drop : (n : ℕ) (ss es : List ℕ) → drop n (rangesOf ss es) ≡ rangesOf (drop n ss) (drop n es)
-ranges-drop zero ss es = refl
-ranges-drop (suc n) [] es = refl
-ranges-drop (suc n) (s ∷ ss) [] = sym (ranges-nothing (drop n ss))
-ranges-drop (suc n) (s ∷ ss) (e ∷ es) = ranges-drop n ss es
-
-pub ranges-append : (ss es ss' es' : List ℕ) → length ss ≡ length es → rangesOf (ss ++ ss') (es ++ es') ≡ rangesOf ss es ++ rangesOf ss' es'
-ranges-append [] [] ss' es' h = refl
-ranges-append [] (e ∷ es) ss' es' h = absurd (omega arith)
-ranges-append (s ∷ ss) [] ss' es' h = absurd (omega arith)
-ranges-append (s ∷ ss) (e ∷ es) ss' es' h = ap (λ (rs : List Range). record { start = s; end = e } ∷ rs) (ranges-append ss es ss' es' (omega arith))
-
--- runs are those of their own starts and ends
-pub ranges-own : (rs : List Range) → rangesOf (startsIn rs) (endsIn rs) ≡ rs
-ranges-own [] = refl
-ranges-own (r ∷ rs) = ap (λ (l : List Range). r ∷ l) (ranges-own rs)
-
--- and starts and ends are those of their runs
-pub starts-own : (ss es : List ℕ) → length ss ≡ length es → startsIn (rangesOf ss es) ≡ ss
-starts-own [] es h = refl
-starts-own (s ∷ ss) [] h = absurd (omega arith)
-starts-own (s ∷ ss) (e ∷ es) h = ap (λ (l : List ℕ). s ∷ l) (starts-own ss es (omega arith))
-
-pub ends-own : (ss es : List ℕ) → length ss ≡ length es → endsIn (rangesOf ss es) ≡ es
-ends-own [] [] h = refl
-ends-own [] (e ∷ es) h = absurd (omega arith)
-ends-own (s ∷ ss) [] h = absurd (omega arith)
-ends-own (s ∷ ss) (e ∷ es) h = ap (λ (l : List ℕ). e ∷ l) (ends-own ss es (omega arith))
-
-pub ranges-length : (ss es : List ℕ) → length ss ≡ length es → length (rangesOf ss es) ≡ length ss
-ranges-length [] es h = refl
-ranges-length (s ∷ ss) [] h = absurd (omega arith)
-ranges-length (s ∷ ss) (e ∷ es) h = ap suc (ranges-length ss es (omega arith))
-
--- the first runs of arrays that changed
-pub ranges-left : (ss es ss' es' : List ℕ) (n k : ℕ) → take (n - k) ss' ≡ drop k (take n ss) → take (n - k) es' ≡ drop k (take n es)
-    → take (n - k) (rangesOf ss' es') ≡ drop k (take n (rangesOf ss es))
-ranges-left ss es ss' es' n k e f = rw (ranges-take (n - k) ss' es', e, f, ranges-take n ss es) (sym (ranges-drop k (take n ss) (take n es)))
+-- as many as a word says are listed
+pub ranges-left : (ss es ss' es' : List ℕ) (word listed carried : ℕ) → listed ≡ min word mostRuns → carried ≡ min listed mostRanges
+    → take (listed - carried) ss' ≡ drop carried (take listed ss) → take (listed - carried) es' ≡ drop carried (take listed es)
+    → take (min (listed - carried) mostRuns) (rangesOf ss' es') ≡ drop mostRanges (take (min word mostRuns) (rangesOf ss es))
+ranges-left ss es ss' es' word listed carried l c e f =
+    let all : min (listed - carried) mostRuns ≡ listed - carried = omega arith in
+    rw (all, ← l, ranges-take (listed - carried) ss' es', e, f)
+    (sym (ranges-drop carried (take listed ss) (take listed es)) ∙ rw (← ranges-take listed ss es, c) (drop-both listed mostRanges (rangesOf ss es)))

@@ -91,8 +91,7 @@ one-confirm a r s k l p q =
 
 pub one-status : (a : Reported) (r s : R.Frame) (k l : Keeper) (d e : List ℕ) → reportedAs r k d ≡ a → reportedAs s l e ≡ a → (r ≡ s) × (k ≡ l) × (d ≡ e)
 one-status a r s k l d e p q =
-    let same = p ∙ sym q in
-    (
+    let same = p ∙ sym q in (
       same-reported r s k l d e (ap (λ (x : Reported). x .answer) same),
       sym (reported-state r k d .0) ∙ ap (λ (x : Reported). x .state) same ∙ reported-state s l e .0,
       sym (reported-state r k d .1) ∙ ap (λ (x : Reported). x .buffer) same ∙ reported-state s l e .1,

@@ -5,7 +5,7 @@
 use mathlib.Core.List.{List}
 use mathlib.Core.Path.{_≡_, refl, sym, _∙_, ap}
 use Prim.Native.Nat.{ℕ}
-use Rattle.layout.specs.Basics.{Outcome, done}
+use Rattle.basics.specs.Basics.{Outcome, done}
 use Rattle.bearer.specs.Bearer.{After}
 use Rattle.bearer.specs.Ledger as machine
 use Rattle.ledger.specs.declared.Ledger.{Ledger}

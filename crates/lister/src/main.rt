@@ -1,9 +1,16 @@
 // Lists the frames of standard input on standard output (document 01, its last section). All but reading and writing is
-// the crate listing's.
-ghost use Prim.Native.Nat.{_+_, _≤_, _<_};
+// the crate lister_lines's.
+ghost use Prim.Native.Nat.{_≤_};
 ghost use lib.ListN.{length};
-use libc::STDIN_FILENO;
-use libc::STDOUT_FILENO;
+ghost use Rattle.program_io.specs.Places.{Ready};
+ghost use Rattle.lister.specs.Sizes.{mostText};
+
+const MOST_TEXT: usize = 4096; // no answer is longer
+
+const MOST_HELD: usize = 2037; // of a line: one digit more than the longest frame has
+
+// What is held of a line.
+type Line = [u8; MOST_HELD];
 
 // What one read leaves to the next: how much of an unfinished line is held, the place of the output's next answer, and
 // whether to read on.
@@ -13,40 +20,16 @@ struct State {
     more: bool,
 }
 
-// The place of the output's next answer, and whether what stood there before is written out.
-struct Next {
-    at: usize,
-    written: bool,
-}
-
-// Writes the output out if it has no room for any answer, and answers the place of the next one.
-fn next_place(out: &[u8], at: usize) -> Next
-    requires { ⌜ (4096 ≤ length (now out)) × (at ≤ length (now out)) ⌝ }
-    ensures { λ r. ⌜ r .at + 4096 ≤ length (now (out .entry)) ⌝ }
-{
-    if listing::has_room(out.len(), at) {
-        return Next {
-            at: at,
-            written: true,
-        };
-    }
-    let written = io::write_all(STDOUT_FILENO, &out[..at]);
-    Next {
-        at: 0,
-        written: written,
-    }
-}
-
 // Feeds a block. Where the output can't be written there is nothing more to do.
-fn list_block(block: &[u8], line: &mut [u8; 2037], out: &mut [u8], state: State) -> State
-    requires { ⌜ (4096 ≤ length (now out)) × (state .at ≤ length (now out)) ⌝ }
+fn list_block(block: &[u8], line: &mut Line, out: &mut [u8], state: State) -> State
+    requires { ⌜ Ready (now out) (state .at) mostText ⌝ }
     ensures { λ r. ⌜ r .at ≤ length (now (out .exit)) ⌝ }
 {
     let mut held = state.held;
     let mut at = state.at;
     let mut from = 0;
     while from < block.len() {
-        let next = next_place(out, at);
+        let next = program_io::next_place(out, at, MOST_TEXT);
         if !next.written {
             return State {
                 held: 0,
@@ -54,7 +37,7 @@ fn list_block(block: &[u8], line: &mut [u8; 2037], out: &mut [u8], state: State)
                 more: false,
             };
         }
-        let fed = listing::feed(&block[from..], line, held, out, next.at);
+        let fed = lister_lines::feed(&block[from..], line, held, out, next.at);
         from += fed.taken;
         held = fed.held;
         at = fed.at;
@@ -67,12 +50,11 @@ fn list_block(block: &[u8], line: &mut [u8; 2037], out: &mut [u8], state: State)
 }
 
 // Reads once, and feeds what came.
-fn list_some(block: &mut [u8], line: &mut [u8; 2037], out: &mut [u8], state: State) -> State
-    requires { ⌜ (4096 ≤ length (now out)) × (state .at ≤ length (now out)) ⌝ }
+fn list_some(block: &mut [u8], line: &mut Line, out: &mut [u8], state: State) -> State
+    requires { ⌜ Ready (now out) (state .at) mostText ⌝ }
     ensures { λ r. ⌜ r .at ≤ length (now (out .exit)) ⌝ }
 {
-    let got = libc::read(STDIN_FILENO, block);
-    let n = io::count(got, block);
+    let n = program_io::read_block(block);
     if n == 0 {
         return State {
             held: state.held,
@@ -84,26 +66,18 @@ fn list_some(block: &mut [u8], line: &mut [u8; 2037], out: &mut [u8], state: Sta
 }
 
 // Writes what is left, with the answer to a last line without its line end.
-fn list_last(line: &[u8; 2037], out: &mut [u8], state: State)
-    requires { ⌜ (4096 ≤ length (now out)) × (state .at ≤ length (now out)) ⌝ }
+fn list_last(line: &Line, out: &mut [u8], state: State)
+    requires { ⌜ Ready (now out) (state .at) mostText ⌝ }
 {
-    let next = next_place(out, state.at);
-    let end = listing::finish(line, state.held, out, next.at);
-    io::write_all(STDOUT_FILENO, &out[..end]);
-}
-
-// How many reads are left after one: none where there is nothing more to read.
-fn reads_left(reads: u64, more: bool) -> u64
-    requires { ⌜ 0 < reads ⌝ }
-    ensures { λ r. ⌜ r < reads ⌝ }
-{
-    if more { reads - 1 } else { 0 }
+    let next = program_io::next_place(out, state.at, MOST_TEXT);
+    let end = lister_lines::finish(line, state.held, out, next.at);
+    program_io::write_front(out, end);
 }
 
 // Reads to the end. A proved loop has to end, and nothing says that an input does: it counts its reads down from a
 // number that no run uses up.
-fn list_all(block: &mut [u8], line: &mut [u8; 2037], out: &mut [u8])
-    requires { ⌜ 4096 ≤ length (now out) ⌝ }
+fn list_all(block: &mut [u8], line: &mut Line, out: &mut [u8])
+    requires { ⌜ mostText ≤ length (now out) ⌝ }
 {
     let mut state = State {
         held: 0,
@@ -113,14 +87,14 @@ fn list_all(block: &mut [u8], line: &mut [u8; 2037], out: &mut [u8])
     let mut reads = u64::MAX;
     while 0 < reads {
         state = list_some(block, line, out, state);
-        reads = reads_left(reads, state.more);
+        reads = program_io::reads_left(reads, state.more);
     }
     list_last(line, out, state);
 }
 
 // A buffer for an unfinished line.
-fn empty_line() -> [u8; 2037] {
-    [0; 2037]
+fn empty_line() -> Line {
+    [0; MOST_HELD]
 }
 
 fn main() {

@@ -1,14 +1,15 @@
--- How a script's lines come out of blocks of any size. What is held of a line tells its call: `FrontTells` of the crate calling.
+-- How a script's lines come out of blocks of any size. What is held of a line tells its call: `FrontTells` of the crate replay_calls.
 -- Assumes nothing.
 use mathlib.Core.Path.{_≡_}
 use mathlib.Core.List.{List, _++_}
 use Prim.Native.Nat.{ℕ, suc, _+_, _≤_, _<_}
 use lib.Dec.{ltb}
 use lib.ListN.{length, take}
-use Rattle.layout.specs.Basics.{bit}
-use Rattle.listing.specs.Feeding.{LineEnd}
-use Rattle.calling.specs.Bound.{mostLine}
+use Rattle.basics.specs.Basics.{bit}
+use Rattle.lister_lines.specs.Feeding.{LineEnd}
+use Rattle.replay_calls.specs.Bound.{mostLine}
 use Rattle.replay.specs.declared.Part.{Part}
+use Rattle.replay.specs.declared.Turn.{Turn}
 
 -- of a line so much is held: one octet more than the longest call has
 abbrev pub heldOf : List ℕ → List ℕ
@@ -24,3 +25,10 @@ pub record Takes (block held : List ℕ) (p : Part) (held′ : List ℕ) : Type 
   pub some : 0 < p .taken
   pub within : p .taken ≤ length block
   pub few : p .held ≤ suc mostLine
+
+-- a block is taken further, within it; what is held of a line is no longer than that, and an answer has its place in the output
+pub record Onward (block out : List ℕ) (from : ℕ) (t : Turn) : Type 0 where
+  pub some : from < t .from
+  pub within : t .from ≤ length block
+  pub few : t .held ≤ suc mostLine
+  pub place : t .at ≤ length out

@@ -1,50 +1,50 @@
-// Plays the calls of standard input on both ends of one bearer, one call a line, and prints their answers. All but reading
-// and writing is the crate replaying's.
+// Plays the calls of standard input on both ends of one bearer, one call a line, and prints their answers. Calls are read by
+// the crate replay_calls and played by the crates replay_ends, replay_keeper and replay_ledger; here is what is left: lines
+// out of blocks, and reading and writing.
 ghost use mathlib.Core.Path.{_≡_};
-ghost use Prim.Native.Nat.{_+_, _≤_, _<_};
 ghost use mathlib.Core.List.{_++_};
+ghost use Prim.Native.Nat.{suc, _≤_, _<_};
 ghost use lib.ListN.{length, take};
-ghost use Rattle.calling.specs.Calls.{readCall, frameAfter};
-ghost use Rattle.replay.specs.Lines.{heldOf, Takes};
-use calling::Call;
-use ledger::Ledger;
-use libc::STDIN_FILENO;
-use libc::STDOUT_FILENO;
+ghost use Rattle.program_io.specs.Places.{Ready};
+ghost use Rattle.replay_calls.specs.Calls.{readCall, frameAfter};
+ghost use Rattle.replay_calls.specs.Bound.{mostLine};
+ghost use Rattle.replay_answers.specs.Answers.{mostText};
+ghost use Rattle.replay.specs.Lines.{heldOf, Takes, Onward};
+use keeper::RecordArray;
+use keeper::RunArray;
+use keeper::WordArray;
+use replay_answers::MOST_TEXT;
+use replay_calls::Call;
+use replay_calls::FrameBuffer;
+use replay_calls::MOST_FRAME;
+use replay_ends::Played;
+use replay_ends::play_open;
+use replay_ends::play_unreadable;
+use replay_keeper::play_keeper;
+use replay_ledger::play_ledger;
+
+const LINE_FEED: u8 = b'\n';
 
 const MOST_HELD: usize = 2044; // of a line: one octet more than the longest call has, which shows that it is none
 
-// What one read leaves to the next: how much of an unfinished line is held, the place of the output's next answer, whether
-// the ends are open, the master's end, and whether to read on.
-struct State {
+// What is held of a line.
+type Line = [u8; MOST_HELD];
+
+// How far a block is taken: from which octet on it isn't, how much is held of a line that it leaves unfinished, or the length of
+// one that it ended, the place of the answer to that, and whether to read on.
+struct Turn {
+    from: usize,
     held: usize,
+    whole: bool,
+    length: usize,
     at: usize,
-    opened: bool,
-    ledger: Ledger,
     more: bool,
 }
 
-// The place of the output's next answer, and whether what stood there before is written out.
-struct Next {
-    at: usize,
-    written: bool,
-}
-
-// Writes the output out if it has no room for any answer, and answers the place of the next one.
-fn next_place(out: &[u8], at: usize) -> Next
-    requires { ⌜ (18432 ≤ length (now out)) × (at ≤ length (now out)) ⌝ }
-    ensures { λ r. ⌜ r .at + 18432 ≤ length (now (out .entry)) ⌝ }
-{
-    if answering::has_room(out.len(), at) {
-        return Next {
-            at: at,
-            written: true,
-        };
-    }
-    let written = io::write_all(STDOUT_FILENO, &out[..at]);
-    Next {
-        at: 0,
-        written: written,
-    }
+// What one block leaves to the next: how far it was taken, and both ends but for the keeper's arrays.
+struct State {
+    turn: Turn,
+    played: Played,
 }
 
 // What a part of a block adds to a line: how many octets were taken, how many are held of the line, and whether its line
@@ -56,20 +56,20 @@ struct Part {
 }
 
 // Holds more of a line, up to the octet that shows that it is too long, and answers how much is held.
-fn hold(part: &[u8], line: &mut [u8; 2044], held: usize) -> usize
-    requires { ⌜ held ≤ 2044 ⌝ }
-    ensures { λ r. ⌜ (r ≤ 2044) × (take r (now (line .exit)) ≡ heldOf (take held (now (line .entry)) ++ now (part .entry))) ⌝ }
+fn hold(part: &[u8], line: &mut Line, held: usize) -> usize
+    requires { ⌜ held ≤ suc mostLine ⌝ }
+    ensures { λ r. ⌜ (r ≤ suc mostLine) × (take r (now (line .exit)) ≡ heldOf (take held (now (line .entry)) ++ now (part .entry))) ⌝ }
 {
-    listing::lay_text(calling::first(part, MOST_HELD - held), line, held)
+    lister_lines::lay_text(basics::front(part, MOST_HELD - held), line, held)
 }
 
 // Takes the octets of a block through its first line feed, or all.
-fn take_line(block: &[u8], line: &mut [u8; 2044], held: usize) -> Part
-    requires { ⌜ (0 < length (now block)) × (held ≤ 2044) ⌝ }
+fn take_line(block: &[u8], line: &mut Line, held: usize) -> Part
+    requires { ⌜ (0 < length (now block)) × (held ≤ suc mostLine) ⌝ }
     ensures { λ r. ⌜ Takes (now (block .entry)) (take held (now (line .entry))) r (take (r .held) (now (line .exit))) ⌝ }
 {
-    let end = listing::line_end(block);
-    let held = hold(calling::first(block, end), line, held);
+    let end = lister_lines::line_end(block);
+    let held = hold(basics::front(block, end), line, held);
     if end < block.len() {
         return Part {
             taken: end + 1,
@@ -85,182 +85,164 @@ fn take_line(block: &[u8], line: &mut [u8; 2044], held: usize) -> Part
 }
 
 // The call that the line says which is held.
-fn held_call(line: &[u8], held: usize, frame: &mut [u8; 1018]) -> Call
+fn held_call(line: &[u8], held: usize, frame: &mut FrameBuffer) -> Call
     ensures { λ r. ⌜ (r ≡ readCall (take held (now (line .entry)))) × (now (frame .exit) ≡ frameAfter (take held (now (line .entry))) (now (frame .entry))) ⌝ }
 {
-    calling::read_call(calling::first(line, held), frame)
+    replay_calls::read_call(basics::front(line, held), frame)
 }
 
-// Plays the lines of a block. Where the output can't be written there is nothing more to do.
+// Takes the next line of a block. Once it is whole there is room for any answer, or the output can't be written, and then
+// there is nothing more to do.
+fn next_line(block: &[u8], line: &mut Line, out: &[u8], turn: Turn, at: usize) -> Turn
+    requires { ⌜ (turn .from < length (now block)) × (turn .held ≤ suc mostLine) × Ready (now out) at mostText ⌝ }
+    ensures { λ r. ⌜ Onward (now (block .entry)) (now (out .entry)) (turn .from) r ⌝ }
+{
+    let from = turn.from;
+    let part = take_line(&block[from..], line, turn.held);
+    let mut t = turn;
+    t.from = from + part.taken;
+    t.held = part.held;
+    t.whole = part.whole;
+    t.at = at;
+    if !part.whole {
+        return t;
+    }
+    let next = program_io::next_place(out, at, MOST_TEXT);
+    t.held = 0;
+    t.length = part.held;
+    t.at = next.at;
+    if next.written {
+        return t;
+    }
+    t.from = block.len();
+    t.whole = false;
+    t.more = false;
+    t
+}
+
+// Plays the lines of a block.
 fn play_block(
     block: &[u8],
-    line: &mut [u8; 2044],
-    numbers: &mut [u32; 512],
-    pdcps: &mut [u32; 512],
-    marks: &mut [u32; 512],
-    starts: &mut [u32; 256],
-    ends: &mut [u32; 256],
-    words: &mut [u32; 6],
+    line: &mut Line,
+    numbers: &mut RecordArray,
+    pdcps: &mut RecordArray,
+    marks: &mut RecordArray,
+    starts: &mut RunArray,
+    ends: &mut RunArray,
+    words: &mut WordArray,
     out: &mut [u8],
     state: State,
 ) -> State
-    requires { ⌜ (18432 ≤ length (now out)) × (state .at ≤ length (now out)) × (state .held ≤ 2044) ⌝ }
-    ensures { λ r. ⌜ (r .at ≤ length (now (out .exit))) × (r .held ≤ 2044) ⌝ }
+    requires { ⌜ Ready (now out) (state .played .at) mostText × (state .turn .held ≤ suc mostLine) ⌝ }
+    ensures { λ r. ⌜ (r .played .at ≤ length (now (out .exit))) × (r .turn .held ≤ suc mostLine) ⌝ }
 {
     let mut frame = empty_frame();
-    let mut s = state;
-    let mut from = 0;
-    while from < block.len() {
-        let part = take_line(&block[from..], line, s.held);
-        from += part.taken;
-        s.held = part.held;
-        if !part.whole {
+    let mut t = state.turn;
+    let mut p = state.played;
+    t.from = 0;
+    while t.from < block.len() {
+        t = next_line(block, line, out, t, p.at);
+        p.at = t.at;
+        if !t.whole {
             continue;
         }
-        let call = held_call(line, part.held, &mut frame);
-        s.held = 0;
-        let next = next_place(out, s.at);
-        if !next.written {
-            s.at = 0;
-            s.more = false;
-            return s;
+        match held_call(line, t.length, &mut frame) {
+            Call::Keeper(c) => {
+                let at = t.at;
+                let open = p.opened;
+                p.at = play_keeper(c, numbers, pdcps, marks, starts, ends, words, open, out, at);
+            }
+            Call::Open(o) => p = play_open(o, numbers, pdcps, marks, starts, ends, words, out, p),
+            Call::Ledger(c) => p = play_ledger(c, &frame, out, p),
+            Call::Unreadable => p.at = play_unreadable(out, p.at),
         }
-        if !replaying::takes_ledger(call, s.opened) {
-            s.at = replaying::play_keeper(call, numbers, pdcps, marks, starts, ends, words, s.opened, out, next.at);
-            continue;
-        }
-        let l = s.ledger;
-        let p = replaying::play_master(call, &frame, numbers, pdcps, marks, starts, ends, words, s.opened, l, out, next.at);
-        let after = p.ledger;
-        s.at = p.at;
-        s.opened = p.opened;
-        s.ledger = after;
     }
-    s
+    State { turn: t, played: p }
 }
 
-// Reads once, and plays what came.
-fn play_some(
-    block: &mut [u8],
-    line: &mut [u8; 2044],
-    numbers: &mut [u32; 512],
-    pdcps: &mut [u32; 512],
-    marks: &mut [u32; 512],
-    starts: &mut [u32; 256],
-    ends: &mut [u32; 256],
-    words: &mut [u32; 6],
-    out: &mut [u8],
-    state: State,
-) -> State
-    requires { ⌜ (18432 ≤ length (now out)) × (state .at ≤ length (now out)) × (state .held ≤ 2044) ⌝ }
-    ensures { λ r. ⌜ (r .at ≤ length (now (out .exit))) × (r .held ≤ 2044) ⌝ }
+// So many octets of a buffer, and whether more may follow.
+struct Block {
+    count: usize,
+    more: bool,
+}
+
+// Reads once. Behind the last block a line that lacks its line feed is given one.
+fn read_on(block: &mut [u8], held: usize) -> Block
+    requires { ⌜ 0 < length (now block) ⌝ }
 {
-    let got = libc::read(STDIN_FILENO, block);
-    let n = io::count(got, block);
-    if n == 0 {
-        let mut s = state;
-        s.more = false;
-        return s;
+    let n = program_io::read_block(block);
+    if 0 < n {
+        return Block {
+            count: n,
+            more: true,
+        };
     }
-    play_block(
-        &block[..n],
-        line,
-        numbers,
-        pdcps,
-        marks,
-        starts,
-        ends,
-        words,
-        out,
-        state,
-    )
-}
-
-// Writes the front of the output out.
-fn write_front(out: &[u8], n: usize) {
-    io::write_all(STDOUT_FILENO, calling::first(out, n));
-}
-
-// Writes what is left, with the answer to a last line without its line end: a block of one line feed ends it.
-fn play_last(
-    line: &mut [u8; 2044],
-    numbers: &mut [u32; 512],
-    pdcps: &mut [u32; 512],
-    marks: &mut [u32; 512],
-    starts: &mut [u32; 256],
-    ends: &mut [u32; 256],
-    words: &mut [u32; 6],
-    out: &mut [u8],
-    state: State,
-)
-    requires { ⌜ (18432 ≤ length (now out)) × (state .at ≤ length (now out)) × (state .held ≤ 2044) ⌝ }
-{
-    if state.held == 0 {
-        write_front(out, state.at);
-        return;
+    if held == 0 {
+        return Block {
+            count: 0,
+            more: false,
+        };
     }
-    let s = play_block(
-        b"\n",
-        line,
-        numbers,
-        pdcps,
-        marks,
-        starts,
-        ends,
-        words,
-        out,
-        state,
-    );
-    write_front(out, s.at);
-}
-
-// How many reads are left after one: none where there is nothing more to read.
-fn reads_left(reads: u64, more: bool) -> u64
-    requires { ⌜ 0 < reads ⌝ }
-    ensures { λ r. ⌜ r < reads ⌝ }
-{
-    if more { reads - 1 } else { 0 }
+    block[0] = LINE_FEED;
+    Block {
+        count: 1,
+        more: false,
+    }
 }
 
 // Before any open: ends that no call reaches.
 fn unopened() -> State
-    ensures { λ r. ⌜ (r .at ≡ 0) × (r .held ≡ 0) ⌝ }
+    ensures { λ r. ⌜ (r .played .at ≡ 0) × (r .turn .held ≡ 0) ⌝ }
 {
     let none = ledger::open(0, 0, 0);
     let l = none.ledger;
     State {
-        held: 0,
-        at: 0,
-        opened: false,
-        ledger: l,
-        more: true,
+        turn: Turn {
+            from: 0,
+            held: 0,
+            whole: false,
+            length: 0,
+            at: 0,
+            more: true,
+        },
+        played: Played {
+            at: 0,
+            opened: false,
+            ledger: l,
+        },
     }
 }
 
-fn words_of_512() -> [u32; 512] {
+fn empty_records() -> RecordArray {
     [0; 512]
 }
 
-fn words_of_256() -> [u32; 256] {
+fn empty_runs() -> RunArray {
     [0; 256]
+}
+
+fn empty_words() -> WordArray {
+    [0; 6]
 }
 
 // Reads to the end. A proved loop has to end, and nothing says that an input does: it counts its reads down from a
 // number that no run uses up.
-fn play_all(block: &mut [u8], line: &mut [u8; 2044], out: &mut [u8])
-    requires { ⌜ 18432 ≤ length (now out) ⌝ }
+fn play_all(block: &mut [u8], line: &mut Line, out: &mut [u8])
+    requires { ⌜ (0 < length (now block)) × (mostText ≤ length (now out)) ⌝ }
 {
-    let mut numbers = words_of_512();
-    let mut pdcps = words_of_512();
-    let mut marks = words_of_512();
-    let mut starts = words_of_256();
-    let mut ends = words_of_256();
-    let mut words = [0u32; 6];
+    let mut numbers = empty_records();
+    let mut pdcps = empty_records();
+    let mut marks = empty_records();
+    let mut starts = empty_runs();
+    let mut ends = empty_runs();
+    let mut words = empty_words();
     let mut state = unopened();
     let mut reads = u64::MAX;
     while 0 < reads {
-        state = play_some(
-            block,
+        let got = read_on(block, state.turn.held);
+        state.turn.more = got.more;
+        state = play_block(
+            basics::front(block, got.count),
             line,
             &mut numbers,
             &mut pdcps,
@@ -271,29 +253,19 @@ fn play_all(block: &mut [u8], line: &mut [u8; 2044], out: &mut [u8])
             out,
             state,
         );
-        reads = reads_left(reads, state.more);
+        reads = program_io::reads_left(reads, state.turn.more);
     }
-    play_last(
-        line,
-        &mut numbers,
-        &mut pdcps,
-        &mut marks,
-        &mut starts,
-        &mut ends,
-        &mut words,
-        out,
-        state,
-    );
+    program_io::write_front(out, state.played.at);
 }
 
 // A buffer for a frame to accept.
-fn empty_frame() -> [u8; 1018] {
-    [0; 1018]
+fn empty_frame() -> FrameBuffer {
+    [0; MOST_FRAME]
 }
 
 // A buffer for an unfinished line.
-fn empty_line() -> [u8; 2044] {
-    [0; 2044]
+fn empty_line() -> Line {
+    [0; MOST_HELD]
 }
 
 fn main() {

@@ -12,7 +12,7 @@ impl Side for Rattle {
 
     #[inline(never)]
     fn read(octets: &[u8]) -> i64 {
-        let mut fields = [0; 6];
+        let mut fields = [0; boundary::FIELDS];
         let (mut starts, mut ends) = (Room::uninit(), Room::uninit());
         let (kind, starts, ends) = boundary::read_all(octets, &mut fields, &mut starts, &mut ends);
         match kind {
@@ -28,7 +28,7 @@ impl Side for Rattle {
 
     #[inline(never)]
     fn read_apart(octets: &[u8]) -> i64 {
-        let mut fields = [0; 6];
+        let mut fields = [0; boundary::FIELDS];
         match boundary::read(octets, &mut fields) {
             1 | 2 => {
                 // With no ranges there is nothing to walk.
@@ -99,7 +99,7 @@ impl Side for Rattle {
 
 /// The sum over all ranges, taken one after another.
 fn walked(octets: &[u8]) -> i64 {
-    let (mut cursor, mut range) = ([0; 3], [0; 2]);
+    let (mut cursor, mut range) = ([0; boundary::CURSOR], [0; boundary::RANGE]);
     let mut sum = 0;
     boundary::first_range(octets, &mut cursor);
     while boundary::next_range(octets, &mut cursor, &mut range) == 1 {

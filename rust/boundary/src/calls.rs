@@ -1,12 +1,14 @@
 //! The calls, safe to make.
 #![allow(unsafe_code)]
 
-use crate::foreign::{self, Ranges, Records, Runs, Words};
+use crate::foreign::{
+    self, Cursor, Fields, MOST_RECORDS, MOST_RUNS, Range, Ranges, Records, Runs, WORDS, Words,
+};
 use std::mem::MaybeUninit;
 
 /// Reads a frame: its type, or the refusal below zero.
 #[inline]
-pub fn read(frame: &[u8], fields: &mut [u32; 6]) -> i64 {
+pub fn read(frame: &[u8], fields: &mut Fields) -> i64 {
     // SAFETY: pointer and length are those of one slice, `fields` is an array.
     unsafe { foreign::x2u_read(frame.as_ptr(), frame.len(), fields) }
 }
@@ -19,7 +21,7 @@ pub type Room = MaybeUninit<Ranges>;
 #[inline]
 pub fn read_all<'a>(
     frame: &[u8],
-    fields: &mut [u32; 6],
+    fields: &mut Fields,
     starts: &'a mut Room,
     ends: &'a mut Room,
 ) -> (i64, &'a [u32], &'a [u32]) {
@@ -33,7 +35,7 @@ pub fn read_all<'a>(
     } else {
         0
     };
-    // SAFETY: of a status so many places were written, 162 at most.
+    // SAFETY: of a status so many places were written, `MOST_RANGES` at most.
     unsafe {
         (
             kind,
@@ -45,7 +47,7 @@ pub fn read_all<'a>(
 
 /// Lays the place before a status's first range in `cursor`.
 #[inline]
-pub fn first_range(frame: &[u8], cursor: &mut [u32; 3]) -> i64 {
+pub fn first_range(frame: &[u8], cursor: &mut Cursor) -> i64 {
     // SAFETY: as in `read`.
     unsafe { foreign::x2u_first_range(frame.as_ptr(), frame.len(), cursor) }
 }
@@ -53,7 +55,7 @@ pub fn first_range(frame: &[u8], cursor: &mut [u32; 3]) -> i64 {
 /// Lays the range at `cursor` in `range` and goes on to the next: 1, or 0 if
 /// there is none.
 #[inline]
-pub fn next_range(frame: &[u8], cursor: &mut [u32; 3], range: &mut [u32; 2]) -> i64 {
+pub fn next_range(frame: &[u8], cursor: &mut Cursor, range: &mut Range) -> i64 {
     // SAFETY: as in `read`.
     unsafe { foreign::x2u_next_range(frame.as_ptr(), frame.len(), cursor, range) }
 }
@@ -117,12 +119,12 @@ impl Keeper {
     #[must_use]
     pub const fn of(word: u32) -> Self {
         Self {
-            numbers: [word; 512],
-            pdcps: [word; 512],
-            marks: [word; 512],
-            starts: [word; 256],
-            ends: [word; 256],
-            words: [word; 6],
+            numbers: [word; MOST_RECORDS],
+            pdcps: [word; MOST_RECORDS],
+            marks: [word; MOST_RECORDS],
+            starts: [word; MOST_RUNS],
+            ends: [word; MOST_RUNS],
+            words: [word; WORDS],
         }
     }
 

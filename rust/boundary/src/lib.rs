@@ -15,5 +15,7 @@ mod probe;
 
 #[cfg(feature = "product")]
 pub use calls::{Keeper, Room, first_range, next_range, read, read_all, write_data, write_status};
+#[cfg(feature = "product")]
+pub use foreign::{CURSOR, Cursor, FIELDS, Fields, MOST_RECORDS, MOST_RUNS, RANGE, Words};
 #[cfg(feature = "probe")]
 pub use probe::{ledger_accepts, ledger_sends};

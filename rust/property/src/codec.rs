@@ -39,24 +39,28 @@ fn form_of(long: bool) -> Form {
 #[derive(Debug, PartialEq, Eq)]
 struct Reading {
     answer: i64,
-    fields: [u32; 6],
+    fields: boundary::Fields,
     first: i64,
     ranges: Vec<Range>,
 }
 
 fn read_by_product(octets: &[u8]) -> Result<Reading, String> {
-    let mut fields = [FILL; 6];
+    let mut fields = [FILL; boundary::FIELDS];
     let answer = boundary::read(octets, &mut fields);
-    let mut fields_of_all = [FILL; 6];
+    let mut fields_of_all = [FILL; boundary::FIELDS];
     let (mut starts, mut ends) = (boundary::Room::uninit(), boundary::Room::uninit());
     let (all, starts, ends) =
         boundary::read_all(octets, &mut fields_of_all, &mut starts, &mut ends);
     same!("reading all", (answer, fields), (all, fields_of_all));
-    let mut cursor = [FILL; 3];
+    let mut cursor = [FILL; boundary::CURSOR];
     let first = boundary::first_range(octets, &mut cursor);
     let mut ranges = Vec::new();
     if first < 0 {
-        same!("the cursor of a refused frame", [FILL; 3], cursor);
+        same!(
+            "the cursor of a refused frame",
+            [FILL; boundary::CURSOR],
+            cursor
+        );
         return Ok(Reading {
             answer,
             fields,
@@ -64,7 +68,7 @@ fn read_by_product(octets: &[u8]) -> Result<Reading, String> {
             ranges,
         });
     }
-    let mut range = [FILL; 2];
+    let mut range = [FILL; boundary::RANGE];
     while boundary::next_range(octets, &mut cursor, &mut range) == 1 {
         let [start, end] = range;
         ranges.push(Range { start, end });
@@ -96,7 +100,7 @@ fn read_by_library(octets: &[u8]) -> Reading {
     match frame::read(octets) {
         Frame::Refused(refusal) => Reading {
             answer: number::<u32>(Err(refusal)),
-            fields: [FILL; 6],
+            fields: [FILL; boundary::FIELDS],
             first: number::<u32>(Err(refusal)),
             ranges: Vec::new(),
         },
@@ -354,8 +358,8 @@ fn order_of(layout: &Layout) -> Order {
 }
 
 /// A walk begun anywhere ends within the frame and answers 0 or 1.
-pub fn walks_anywhere((octets, cursor): &(Octets, [u32; 3])) -> Verdict {
-    let (mut cursor, mut range) = (*cursor, [FILL; 2]);
+pub fn walks_anywhere((octets, cursor): &(Octets, boundary::Cursor)) -> Verdict {
+    let (mut cursor, mut range) = (*cursor, [FILL; boundary::RANGE]);
     // A range takes four octets at least.
     for _ in 0..=octets.0.len() / 4 {
         let before = (cursor, range);

@@ -3,6 +3,7 @@
 
 use crate::scripts::Script;
 use crate::suite::Verdict;
+use boundary::{MOST_RECORDS, MOST_RUNS};
 use programs::replay::{Call, MOST_ROOM};
 use proptest::prelude::*;
 use soak::table::Table;
@@ -165,11 +166,14 @@ type Made = (&'static str, Answer<u32>, i64);
 pub struct Garbage {
     fill: u32,
     places: Vec<(usize, u32)>,
-    words: [u32; 6],
+    words: boundary::Words,
     number: u32,
     pdcp: u32,
     room: usize,
 }
+
+/// The places of a state's arrays, without its words.
+const PLACES: usize = 3 * MOST_RECORDS + 2 * MOST_RUNS;
 
 /// States of garbage: words of any kind, arrays of one number but for some
 /// places.
@@ -183,7 +187,7 @@ pub fn garbage() -> impl Strategy<Value = Garbage> {
         ]
     };
     let words = [word(), word(), word(), word(), word(), word()];
-    let places = prop::collection::vec((0_usize..2_048, word()), 0..40);
+    let places = prop::collection::vec((0..PLACES, word()), 0..40);
     let lengths = prop::sample::select(vec![0_u32, 12, 15, 18, 40]);
     (
         word(),
@@ -212,13 +216,13 @@ pub fn garbage() -> impl Strategy<Value = Garbage> {
 pub fn survives(garbage: &Garbage) -> Result<u64, String> {
     let mut state = Box::new(boundary::Keeper::of(garbage.fill));
     for &(place, word) in &garbage.places {
-        let of = place % 512;
-        match place / 512 {
+        let of = place % MOST_RECORDS;
+        match place / MOST_RECORDS {
             0 => state.numbers[of] = word,
             1 => state.pdcps[of] = word,
             2 => state.marks[of] = word,
-            _ if of < 256 => state.starts[of] = word,
-            _ => state.ends[of - 256] = word,
+            _ if of < MOST_RUNS => state.starts[of] = word,
+            _ => state.ends[of - MOST_RUNS] = word,
         }
     }
     state.words = garbage.words;

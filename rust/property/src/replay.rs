@@ -5,16 +5,12 @@ use crate::suite::Verdict;
 use soak::process;
 use soak::table::Table;
 use std::path::Path;
-use std::time::Duration;
-
-/// No script takes nearly as long, unless a program hangs.
-const LIMIT: Duration = Duration::from_secs(120);
 
 /// What the second program, the product, answered to a script that both
 /// answer alike.
 pub fn answers_alike(programs: [&Path; 2], script: &Script) -> Result<Vec<Vec<u8>>, String> {
     let input = joined(&script.0);
-    let [library, product] = process::run_both(programs, &input, LIMIT);
+    let [library, product] = process::run_both(programs, &input);
     for (name, outcome) in [("library", &library), ("product", &product)] {
         if let Some(trouble) = &outcome.trouble {
             return Err(format!("the {name}'s program {trouble}"));

@@ -6,12 +6,9 @@ use crate::table::Table;
 use crate::{frames, moods, shrink};
 use std::fmt::{self, Display, Formatter};
 use std::path::Path;
-use std::time::Duration;
 
 /// About as many lines go to one run of the programs.
 const CHUNK: usize = 50_000;
-/// No run takes nearly as long, unless a program hangs.
-const LIMIT: Duration = Duration::from_secs(60);
 
 /// Lines for one run of the programs.
 #[derive(Default)]
@@ -161,7 +158,7 @@ impl Comparison<'_> {
         if ended && !lines.is_empty() {
             input.push(b'\n');
         }
-        process::run_both(self.programs, &input, LIMIT)
+        process::run_both(self.programs, &input)
     }
 
     fn differ(&self, lines: &[Vec<u8>]) -> bool {

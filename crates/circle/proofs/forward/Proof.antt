@@ -1,5 +1,5 @@
 -- `forward`: the wrapping difference, masked, is the distance on the circle; from 32 bits on it is the difference itself. Assumes nothing.
-use Prim.Native.Nat.{_-_, _^_, _<_, min}
+use Prim.Native.Nat.{_^_, _<_, min}
 use native.Mathlib.Omega.{arith}
 use mathlib.Core.Path.{_≡_, sym, _∙_}
 use lib.Pow.{pow-pos}

@@ -1,89 +1,59 @@
 -- `expire`: a judged expiry changes runs and words as the machine does; a refused one changes no array. Assumes nothing.
-use Rattle.keeper.proofs.Unique.{lost-not}
-use lib.ListN.{length, getD, take}
-use Rattle.bearer.specs.Keeper.{Keeper, circle, held}
-use Rattle.keeper.specs.View.{keeperIn}
-use Rattle.keeper.specs.Plans.{JudgesExpiry, AcceptsExpiry, movedTo, runsWith}
-use Rattle.keeper.proofs.Arrays.{HeldSizes, ListedSizes, held-count, listed-count, numbers-held, ends-listed, stored-state}
-use Rattle.keeper.proofs.Given.{lists-of, runs-of}
-use Rattle.keeper.specs.declared.Words.{Words}
-use Rattle.layout.specs.Frames.{rangesOf, modulus}
-use Rattle.bearer.specs.Bearer.{mostRuns, mostRecords}
-use Prim.Native.Nat.{ℕ, _-_, min}
-use native.Mathlib.Omega.{arith}
-use mathlib.Core.Path.{_≡_, refl, sym, _∙_, ap}
+use mathlib.Core.Path.{_≡_, refl, sym, _∙_, ap, subst}
 use borrow.Author.Needs.{needs}
+use Rattle.bearer.specs.Bearer.{refusing}
+use Rattle.bearer.specs.Keeper.{Keeper, expire}
+use Rattle.keeper_judge.specs.declared.Expiry.{Expiry}
+use Rattle.keeper_judge.specs.declared.Words.{Words}
+use Rattle.keeper_judge.specs.State.{stateIn, Fronts}
+use Rattle.keeper_judge.specs.Judgements.{JudgesExpiry, AcceptsExpiry}
+use Rattle.keeper.specs.View.{wordsIn}
+use Rattle.keeper.proofs.Changed.{losing, expired}
+use Rattle.keeper.proofs.Unique.{lost-not}
 use Rattle.keeper.proofs.expire.Statement.{statement}
 use Rattle.keeper.proofs.expire.Tie as tie
 
--- {h
--- the state before
-abbrev state : (c : tie.Start) → Keeper
-state c = let a = c .args in keeperIn (a .numbers .now) (a .pdcps .now) (a .marks .now) (a .starts .now) (a .ends .now) (a .words .now)
+-- ---- the places
 
-held-sizes : (c : tie.After-held-in) → let a = c .before .before .before .before .before .before .before .before .before .args in HeldSizes (a .numbers .now) (a .pdcps .now) (a .marks .now)
-held-sizes c = record { numbers = c .before .before .before .before .before .held-in-arg2 .given .0; pdcps = c .before .before .before .held-in-arg4 .given .0; marks = c .before .held-in-arg6 .given .0 }
+abbrev start : tie.After-read → tie.Start
+start c = c .before .before
 
-run-sizes : (c : tie.After-listed-in) → ListedSizes (c .before .before .before .before .before .before .before .before .before .before .before .before .before .before .args .starts .now) (c .before .before .before .before .before .before .before .before .before .before .before .before .before .before .args .ends .now)
-run-sizes c = record { starts = c .before .before .before .listed-in-arg2 .given .0; ends = c .before .listed-in-arg4 .given .0 }
+abbrev read : tie.After-judge-expiry → tie.After-read
+read c = c .before .before .before .before .before .before
 
-held-is : (c : tie.After-listed-in) → c .before .before .before .before .before .held-in .result ≡ min (getD (c .before .before .before .before .before .before .before .before .before .before .before .before .before .before .args .words .now) 5 0) mostRecords
-held-is c = held-count (held-sizes (c .before .before .before .before .before)) (c .before .before .before .before .before .before .before .before .before .before .before .before .before .before .args .words .now) (c .before .before .before .before .before .before .before .before .before .before .before .before .read .result) (c .before .before .before .before .before .held-in .result) (c .before .before .before .before .before .before .before .before .before .before .before .before .read .ensures) (c .before .before .before .before .before .held-in .ensures)
+abbrev judged : tie.After-plan → tie.After-judge-expiry
+judged c = c .before .before
 
-listed-is : (c : tie.After-listed-in) → c .listed-in .result ≡ min (getD (c .before .before .before .before .before .before .before .before .before .before .before .before .before .before .args .words .now) 4 0) mostRuns
-listed-is c = listed-count (run-sizes c) (c .before .before .before .before .before .before .before .before .before .before .before .before .before .before .args .words .now) (c .before .before .before .before .before .before .before .before .before .before .before .before .read .result) (c .listed-in .result) (c .before .before .before .before .before .before .before .before .before .before .before .before .read .ensures) (c .listed-in .ensures)
+abbrev accepted : tie.After-list-lost → tie.After-plan
+accepted c = c .before .before .before .before .before .before
 
--- the numbers with records, as they are passed
-seen : (c : tie.After-listed-in) → take (c .before .before .before .before .before .held-in .result) (c .before .before .before .before .before .before .before .before .before .before .before .before .before .before .args .numbers .now) ≡ held (state (c .before .before .before .before .before .before .before .before .before .before .before .before .before .before))
-seen c =
-    rw (held-is c) (sym (numbers-held (held-sizes (c .before .before .before .before .before)) (min (getD (c .before .before .before .before .before .before .before .before .before .before .before .before .before .before .args .words .now) 5 0) mostRecords) (omega arith)))
+-- ---- what is known there
 
-judged : (c : tie.After-judge-expiry) → JudgesExpiry (c .judge-expiry .result) (state (c .before .before .before .before .before .before .before .before .before .before .before .before .before .before .before .before .before .before .before .before .before))
-judged c =
-    let k = state (c .before .before .before .before .before .before .before .before .before .before .before .before .before .before .before .before .before .before .before .before .before) in
-    let n : ℕ = min (getD (c .before .before .before .before .before .before .before .before .before .before .before .before .before .before .before .before .before .before .before .before .before .args .words .now) 4 0) mostRuns in
-    rw (c .before .before .before .before .before .before .before .before .before .before .before .before .before .before .before .before .before .before .before .read .ensures) at
-    (c .judge-expiry .ensures (k .runs) (k .records)
-    (sym (c .before .before .before .before .first .ensures ∙ seen (c .before .before .before .before .before .before .before)))
-    (ends-listed (run-sizes (c .before .before .before .before .before .before .before)) n (omega arith) ∙ sym (c .before .first2 .ensures ∙ rw (listed-is (c .before .before .before .before .before .before .before)))))
+-- the state that words and the arrays are
+abbrev state : tie.Start → Words → Keeper
+state c w = let a = c .args in stateIn w (a .numbers .now) (a .pdcps .now) (a .marks .now) (a .starts .now) (a .ends .now)
 
-accepts : (c : tie.After-plan) → AcceptsExpiry (c .plan .given .0 .0) (state (c .before .before .before .before .before .before .before .before .before .before .before .before .before .before .before .before .before .before .before .before .before .before .before))
-accepts c = rw (c .plan .given .1) at (judged (c .before .before))
+-- before the call
+abbrev before : tie.After-judge-expiry → Keeper
+before c = state (start (read c)) (read c .read .result)
 
--- what is passed to list the runs
-circle-is : (c : tie.After-is-long) → modulus (c .is-long .result) ≡ circle (state (c .before .before .before .before .before .before .before .before .before .before .before .before .before .before .before .before .before .before .before .before .before .before .before .before .before .before .before .before .before))
-circle-is c = rw (c .is-long .ensures, c .before .before .before .before .before .before .before .before .before .before .before .before .before .before .before .before .before .before .before .before .before .before .before .before .before .before .before .read .ensures)
+judges : (c : tie.After-judge-expiry) → JudgesExpiry (c .judge-expiry .result) (before c)
+judges c = c .judge-expiry .ensures .0
 
-base-is : (c : tie.After-is-long) → c .before .before .before .before .before .before .before .before .before .before .before .before .before .before .before .before .before .before .before .before .before .before .before .before .before .before .before .read .result .base ≡ state (c .before .before .before .before .before .before .before .before .before .before .before .before .before .before .before .before .before .before .before .before .before .before .before .before .before .before .before .before .before) .base
-base-is c = ap (λ (w : Words). w .base) (c .before .before .before .before .before .before .before .before .before .before .before .before .before .before .before .before .before .before .before .before .before .before .before .before .before .before .before .read .ensures)
+accepts : (c : tie.After-plan) → AcceptsExpiry (c .plan .given .0 .0) (before (judged c))
+accepts c = subst (λ (r : Expiry). JudgesExpiry r (before (judged c))) (c .plan .given .1) (judges (judged c))
 
-numbers-are : (c : tie.After-first3) → c .first3 .result .now ≡ held (state (c .before .before .before .before .before .before .before .before .before .before .before .before .before .before .before .before .before .before .before .before .before .before .before .before .before .before .before .before))
-numbers-are c = c .first3 .ensures ∙ seen (c .before .before .before .before .before .before .before .before .before .before .before .before .before .before)
+fronts : (c : tie.After-plan) → Fronts (read (judged c) .read .result) (start (read (judged c)) .args .numbers .now) (before (judged c))
+fronts c = judged c .judge-expiry .ensures .1
 
--- the runs listed then
-runs-are : (c : tie.After-list-runs)
-    → take (min (c .before .before .before .before .before .before .before .before .before .plan .given .0 .0 .lost .runs) mostRuns) (rangesOf (c .list-runs .last .1 .1 .1 .1 .0) (c .list-runs .last .1 .1 .1 .1 .1 .0)) ≡ runsWith (c .before .before .before .before .before .before .before .before .before .plan .given .0 .0 .lost) (state (c .before .before .before .before .before .before .before .before .before .before .before .before .before .before .before .before .before .before .before .before .before .before .before .before .before .before .before .before .before .before .before .before))
-runs-are c =
-    let lost = c .before .before .before .before .before .before .before .before .before .plan .given .0 .0 .lost in
-    let few : min (lost .runs) mostRuns ≡ lost .runs = omega (arith, accepts (c .before .before .before .before .before .before .before .before .before) .loses .few) in
-    rw few (c .list-runs .ensures
-    ∙ runs-of (circle-is (c .before .before .before)) (base-is (c .before .before .before)) (numbers-are (c .before .before .before .before)) (listed-is (c .before .before .before .before .before .before .before .before .before .before .before .before .before .before .before .before .before .before)) (rangesOf (c .before .before .before .before .before .before .before .before .before .before .before .before .before .before .before .before .before .before .before .before .before .before .before .before .before .before .before .before .before .before .before .before .args .starts .now) (c .before .before .before .before .before .before .before .before .before .before .before .before .before .before .before .before .before .before .before .before .before .before .before .before .before .before .before .before .before .before .before .before .args .ends .now)) (lost .limit))
--- h}
+-- the words that are read are those of the array
+machine : (c : tie.After-read) → expire (state (start c) (c .read .result)) ≡ expire (state (start c) (wordsIn (start c .args .words .now)))
+machine c = ap (λ (w : Words). expire (state (start c) w)) (c .read .ensures)
+
+-- ---- the needs
 
 read-requires : tie.Need-read-requires
 read-requires c κs = search needs
-
-held-in-requires : tie.Need-held-in-requires
-held-in-requires c κs = search needs
-
-listed-in-requires : tie.Need-listed-in-requires
-listed-in-requires c κs = search needs
-
-first-requires : tie.Need-first-requires
-first-requires c κs = search needs
-
-first-requires-2 : tie.Need-first-requires-2
-first-requires-2 c κs = search needs
 
 judge-expiry-requires : tie.Need-judge-expiry-requires
 judge-expiry-requires c κs = search needs
@@ -94,40 +64,33 @@ enum-known-n c = search needs
 enum-known-plan : tie.Need-enum-known-plan
 enum-known-plan c = search needs
 
-first-requires-3 : tie.Need-first-requires-3
-first-requires-3 c κs = search needs
+list-lost-requires : tie.Need-list-lost-requires
+list-lost-requires c κs =
+    let p = c .before .before .before .before .before in
+    let r = read (judged p) in
+    let a = start r .args in
+    (losing (r .read .result) (a .numbers .now) (a .pdcps .now) (a .marks .now) (a .starts .now) (a .ends .now) (accepts p .loses) (fronts p), accepts p .loses .few)
 
-is-long-requires : tie.Need-is-long-requires
-is-long-requires c κs = search needs
-
-list-runs-requires : tie.Need-list-runs-requires
-list-runs-requires c κs =
-    let a = c .before .before .before .before .before .before .before .before .before .before .before .before .before .before .before .before .before .before .before .before .before .before .before .before .before .before .before .before .before .before .before .args in
-    let z = run-sizes (c .before .before .before .before .before .before .before .before .before .before .before .before .before .before .before .before .before) in
-    let l = accepts (c .before .before .before .before .before .before .before .before) .loses in
-    lists-of (circle-is (c .before .before)) (base-is (c .before .before)) (numbers-are (c .before .before .before)) (listed-is (c .before .before .before .before .before .before .before .before .before .before .before .before .before .before .before .before .before)) (a .starts .now) (a .ends .now) (l .losing) (omega (arith, z)) (z .starts ∙ sym (z .ends)) (omega (arith, z .starts, l .few))
-
-cast-t43 : tie.Need-cast-t43
-cast-t43 c = omega (arith, accepts (c .before .before .before .before .before .before .before .before .before .before .before) .loses .few)
+moved-requires : tie.Need-moved-requires
+moved-requires c κs = accepts (accepted (c .before)) .loses .few
 
 store-requires : tie.Need-store-requires
 store-requires c κs = search needs
 
 returns : tie.Need-returns
-returns c = (sym (rw (c .before .n .given .1) at (judged (c .before .before .before))), λ n e. refl)
+returns c =
+    let j = c .before .before .before in
+    let r = read j in
+    let refused = subst (λ (r : Expiry). JudgesExpiry r (before j)) (c .before .n .given .1) (judges j) in
+    (sym (subst (λ (w : Words). expire (state (start r) w) ≡ refusing (c .before .n .given .0 .0) (state (start r) w)) (r .read .ensures) refused), λ n e. refl)
 
 returns-2 : tie.Need-returns-2
 returns-2 c =
-    let a = c .before .before .before .before .before .before .before .before .before .before .before .before .before .before .before .before .before .before .before .before .before .before .before .before .before .before .before .before .before .before .before .before .before .before .before .args in
-    let k = state (c .before .before .before .before .before .before .before .before .before .before .before .before .before .before .before .before .before .before .before .before .before .before .before .before .before .before .before .before .before .before .before .before .before .before .before) in
-    let w = c .before .before .before .before .before .before .before .before .before .before .before .before .before .before .before .before .before .before .before .before .before .before .before .before .before .before .before .before .before .before .before .before .before .read .result in
-    let is = c .before .before .before .before .before .before .before .before .before .before .before .before .before .before .before .before .before .before .before .before .before .before .before .before .before .before .before .before .before .before .before .before .before .read .ensures in
-    let plan = c .before .before .before .before .before .before .before .before .before .before .before .before .plan .given .0 .0 in
-    let ss = c .before .before .before .list-runs .last .1 .1 .1 .1 .0 in
-    let es = c .before .before .before .list-runs .last .1 .1 .1 .1 .1 .0 in
-    let new : Words = record { length = w .length; base = plan .base; reported = w .reported; closed = w .closed; runs = plan .lost .runs; records = w .records } in
-    let after = stored-state (movedTo k (plan .base) (runsWith (plan .lost) k) (k .records)) new (a .numbers .now) (a .pdcps .now) (a .marks .now) ss es (rw is) refl (rw is) (rw is) (runs-are (c .before .before .before)) (rw is) in (
-      rw (c .store .ensures, accepts (c .before .before .before .before .before .before .before .before .before .before .before .before) .outcome, after),
+    let l = c .before .before .before in
+    let p = accepted l in
+    let r = read (judged p) in
+    let a = start r .args in (
+      expired (r .read .result) (a .numbers .now) (a .pdcps .now) (a .marks .now) (a .starts .now) (a .ends .now) (accepts p) (fronts p) (c .store .ensures) (c .before .moved .ensures) (l .list-lost .last .1 .0) (l .list-lost .last .1 .1 .0) (l .list-lost .ensures) ∙ machine r,
       λ n e. absurd (lost-not _ n e),
     )
 
@@ -136,17 +99,11 @@ expire-spec =
     tie.close
     (tie.spec
     read-requires
-    held-in-requires
-    listed-in-requires
-    first-requires
-    first-requires-2
     judge-expiry-requires
     enum-known-n
     enum-known-plan
-    first-requires-3
-    is-long-requires
-    list-runs-requires
-    cast-t43
+    list-lost-requires
+    moved-requires
     store-requires
     returns
     returns-2)

@@ -31,7 +31,7 @@ same-length c = search needs
 returns : tie.Need-returns
 returns c =
     let w = c .args .w in
-    stored (c .args .words .now) (w .length) (w .base) (w .reported) (w .closed) (w .runs) (w .records) (c .pre)
+    stored (c .args .words .now) (w .bits) (w .base) (w .reported) (w .closed) (w .runs) (w .records) (c .pre)
 
 pub store-spec : {M : Type 1} → statement M
 store-spec =

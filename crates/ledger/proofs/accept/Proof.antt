@@ -1,24 +1,40 @@
 -- `accept`: by what was read, the machine's answer. Assumes nothing.
 use mathlib.Core.Path.{_≡_, sym, _∙_, ap}
-use Rattle.layout.specs.Frames.{readFrame}
+use Rattle.frame_layout.specs.Frames.{readFrame}
 use Rattle.bearer.specs.Ledger.{acceptReading, accept}
-use Rattle.reader.specs.declared.Frame.{Frame}
-use Rattle.reader.specs.Answers.{readingOf}
-use Rattle.reader.proofs.Walk.{held-first}
+use Rattle.frame_reader.specs.declared.Frame.{Frame}
+use Rattle.frame_reader.specs.Answers.{readingOf}
+use Rattle.frame_reader.proofs.Walk.{held-first}
 use Rattle.ledger.specs.View.{ledgerIn}
 use Rattle.ledger.proofs.Calls.{accept-closed, accept-read}
 use borrow.Author.Needs.{needs}
 use Rattle.ledger.proofs.accept.Statement.{statement}
 use Rattle.ledger.proofs.accept.Tie as tie
 
--- the answer that came back stands for what the frame says
-reads-as : (k : tie.After-read) {f : Frame} → k .read .result ≡ f → readingOf (k .before .before .before .args .frame .now) f ≡ readFrame (k .before .before .before .args .frame .now)
-reads-as k e = ap (readingOf (k .before .before .before .args .frame .now)) (sym e) ∙ k .read .ensures
+-- ---- the places of the code, each from the one below it
 
+-- the frame is read
+abbrev start : tie.After-read → tie.Start
+start k = k .before .before .before
+
+-- it is a status
+abbrev as-status : tie.After-known-told → tie.After-read
+as-status k = k .before .before .before
+
+-- it is refused
+abbrev as-refused : tie.After-known-told2 → tie.After-read
+as-refused k = k .before .before .before
+
+-- ---- what is known there
+
+-- the answer that came back stands for what the frame says
+reads-as : (k : tie.After-read) {f : Frame} → k .read .result ≡ f → readingOf (start k .args .frame .now) f ≡ readFrame (start k .args .frame .now)
+reads-as k e = ap (readingOf (start k .args .frame .now)) (sym e) ∙ k .read .ensures
+
+-- and the machine goes by it
 answered : (k : tie.After-read) {f : Frame} → k .read .result ≡ f
-    → acceptReading (ledgerIn (k .before .before .before .args .l)) (readingOf (k .before .before .before .args .frame .now) f)
-    ≡ accept (ledgerIn (k .before .before .before .args .l)) (k .before .before .before .args .frame .now)
-answered k {f} e = sym (accept-read (ledgerIn (k .before .before .before .args .l)) (k .before .before .before .args .frame .now) (k .before .if1 .left) f (reads-as k e))
+    → acceptReading (ledgerIn (start k .args .l)) (readingOf (start k .args .frame .now) f) ≡ accept (ledgerIn (start k .args .l)) (start k .args .frame .now)
+answered k {f} e = sym (accept-read (ledgerIn (start k .args .l)) (start k .args .frame .now) (k .before .if1 .left) f (reads-as k e))
 
 not-accepted-requires : tie.Need-not-accepted-requires
 not-accepted-requires c κs = search needs
@@ -41,7 +57,7 @@ enum-known-head : tie.Need-enum-known-head
 enum-known-head c = search needs
 
 accept-status-requires : tie.Need-accept-status-requires
-accept-status-requires c κs = held-first (c .before .before .before .before .before .before .args .frame .now) (c .before .head .given .0 .0) (reads-as (c .before .before .before) (c .before .head .given .1))
+accept-status-requires c κs = held-first (start (as-status c) .args .frame .now) (c .before .head .given .0 .0) (reads-as (as-status c) (c .before .head .given .1))
 
 enum-known-n : tie.Need-enum-known-n
 enum-known-n c = search needs
@@ -53,10 +69,10 @@ returns-2 : tie.Need-returns-2
 returns-2 c = c .not-accepted2 .ensures ∙ answered (c .before .before .before) (c .before .enum-told .given .1)
 
 returns-3 : tie.Need-returns-3
-returns-3 c = c .accept-status .ensures ∙ answered (c .before .before .before .before) (c .before .before .head .given .1)
+returns-3 c = c .accept-status .ensures ∙ answered (as-status (c .before)) (c .before .before .head .given .1)
 
 returns-4 : tie.Need-returns-4
-returns-4 c = c .not-accepted3 .ensures ∙ answered (c .before .before .before .before) (c .before .before .n .given .1)
+returns-4 c = c .not-accepted3 .ensures ∙ answered (as-refused (c .before)) (c .before .before .n .given .1)
 
 pub accept-spec : {M : Type 1} → statement M
 accept-spec =

@@ -4,16 +4,26 @@ use Prim.Native.Nat.{ℕ, _^_, _<_, min}
 use native.Mathlib.Omega.{arith}
 use borrow.Author.Tests.{lt-ltb, le-ltb}
 use Rattle.circle.specs.Circle.{forward}
-use Rattle.ledger.specs.Steps.{forwardIn}
+use Rattle.circle.specs.Lengths.{pdcps, lengthIn}
 use borrow.Author.Needs.{needs}
 use Rattle.ledger.proofs.in_order.Statement.{statement}
 use Rattle.ledger.proofs.in_order.Tie as tie
 
 -- below 32 bits a distance is the one on the circle of PDCP numbers
-reduced : (L a b d : ℕ) → L < 32 → d ≡ forward (2 ^ min L 32) a b → d ≡ forwardIn L a b
-reduced L a b d h e =
-    let least : min L 32 ≡ L = omega arith in
+reduced : (L x a b d : ℕ) → (x ≡ L) × (x < 32) → d ≡ forward (2 ^ min x 32) a b → d ≡ forward (pdcps L) a b
+reduced L x a b d h e =
+    let least : min x 32 ≡ L = omega arith in
     rw least at e
+
+-- both distances
+to-sent : (k : tie.After-forward2) → k .before .forward .result ≡ forward (pdcps (lengthIn (k .before .before .before .args .bits))) (k .before .before .before .args .highest) (k .before .before .before .args .sent)
+to-sent k = reduced _ _ _ _ _ (k .before .before .length-in .ensures) (k .before .forward .ensures)
+
+to-pdcp : (k : tie.After-forward2) → k .forward2 .result ≡ forward (pdcps (lengthIn (k .before .before .before .args .bits))) (k .before .before .before .args .highest) (k .before .before .before .args .pdcp)
+to-pdcp k = reduced _ _ _ _ _ (k .before .before .length-in .ensures) (k .forward2 .ensures)
+
+length-in-requires : tie.Need-length-in-requires
+length-in-requires c κs = search needs
 
 forward-requires : tie.Need-forward-requires
 forward-requires c κs = search needs
@@ -22,21 +32,15 @@ forward-requires-2 : tie.Need-forward-requires-2
 forward-requires-2 c κs = search needs
 
 returns : tie.Need-returns
-returns c =
-    let s = c .before .before .before in
-    let to-sent = reduced _ _ _ _ (s .pre) (c .before .before .forward .ensures) in
-    let to-pdcp = reduced _ _ _ _ (s .pre) (c .before .forward2 .ensures) in
-    rw (← to-sent, ← to-pdcp, le-ltb _ _ (c .if1 .taken))
+returns c = rw (← to-sent (c .before), ← to-pdcp (c .before), le-ltb _ _ (c .if1 .taken))
 
 pdcps-requires : tie.Need-pdcps-requires
 pdcps-requires c κs = search needs
 
 returns-2 : tie.Need-returns-2
 returns-2 c =
-    let s = c .before .before .before .before in
-    let to-sent = reduced _ _ _ _ (s .pre) (c .before .before .before .forward .ensures) in
-    let to-pdcp = reduced _ _ _ _ (s .pre) (c .before .before .forward2 .ensures) in
-    rw (← to-sent, ← to-pdcp, ← c .pdcps .ensures, lt-ltb _ _ (c .before .if1 .left))
+    let k = c .before .before in
+    rw (← to-sent k, ← to-pdcp k, ← c .pdcps .ensures, lt-ltb _ _ (c .before .if1 .left))
 
 pub in-order-spec : {M : Type 1} → statement M
-in-order-spec = tie.close (tie.spec forward-requires forward-requires-2 returns pdcps-requires returns-2)
+in-order-spec = tie.close (tie.spec length-in-requires forward-requires forward-requires-2 returns pdcps-requires returns-2)

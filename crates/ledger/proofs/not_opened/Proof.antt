@@ -1,6 +1,6 @@
 -- `not_opened`: the end beside the refusal is the one that was never opened. Assumes nothing.
 use mathlib.Core.Path.{ap}
-use Rattle.layout.specs.Basics.{refused}
+use Rattle.basics.specs.Basics.{refused}
 use Rattle.ledger.specs.View.{beside}
 use borrow.Author.Needs.{needs}
 use Rattle.ledger.proofs.not_opened.Statement.{statement}

@@ -1,40 +1,34 @@
 -- `take`: the oldest that may go is the machine's, and the entries are left without it. Assumes nothing.
-use mathlib.Core.Path.{_≡_, sym, _∙_, ap}
-use Prim.Native.Nat.{ℕ, suc, _<_, min}
-use native.Mathlib.Numerals.{add-one}
+use mathlib.Core.Path.{_≡_, sym}
+use Prim.Native.Nat.{_<_, min}
 use native.Mathlib.Omega.{arith}
-use mathlib.Core.List.{_++_}
-use lib.ListN.{length, getD, take, drop, length-map}
-use Rattle.bearer.specs.Ledger.{takeAt}
-use Rattle.ledger.specs.View.{entryIn, entriesIn, ledgerIn}
-use Rattle.ledger.proofs.Entries.{entries-length, blank, slot}
+use lib.ListN.{length, length-map}
+use Rattle.bearer.specs.Bearer.{mostEntries}
+use Rattle.ledger_entries.proofs.Entries.{held-length, slot}
+use Rattle.ledger.specs.View.{ledgerIn}
 use Rattle.ledger.proofs.Calls.{take-none, take-one}
 use borrow.Author.Needs.{needs}
 use Rattle.ledger.proofs.take.Statement.{statement}
 use Rattle.ledger.proofs.take.Tie as tie
 
-slots : (k : tie.After-held) → length (k .before .args .l .entries) ≡ 512
-slots k = simp length-map at (k .before .good .0 .1 .1 .0 .1 .0 .1)
+-- the place is found, and the count is known
+abbrev start : tie.After-least → tie.Start
+start k = k .before .before .before
 
-count : (k : tie.After-held) → length (ledgerIn (k .before .args .l) .entries) ≡ min (k .before .args .l .count) 512
-count k = entries-length (k .before .args .l .entries) (min (k .before .args .l .count) 512) (rw (slots k) (omega arith))
-
--- the place that was found is the machine's
-place : (k : tie.After-oldest) → k .oldest .result ≡ takeAt (k .before .before .before .args .l .closed) (ledgerIn (k .before .before .before .args .l) .entries)
-place k = k .oldest .ensures .0 ∙ ap (λ (n : ℕ). takeAt (k .before .before .before .args .l .closed) (entriesIn (k .before .before .before .args .l .entries) n)) (k .before .before .held .ensures)
-
-held-requires : tie.Need-held-requires
-held-requires c κs = search needs
+slots : (k : tie.After-least) → length (start k .args .l .entries) ≡ mostEntries
+slots k = simp length-map at (start k .good .0 .1 .1 .0 .1 .0 .1)
 
 oldest-requires : tie.Need-oldest-requires
 oldest-requires c κs = search needs
 
+least-requires : tie.Need-least-requires
+least-requires c κs = search needs
+
 returns : tie.Need-returns
 returns c =
-    let l = c .before .before .before .before .args .l in
-    let h = c .before .before .before .held in
-    let i = place (c .before) in
-    sym (take-none (ledgerIn l) (c .before .oldest .result) i (rw (count (c .before .before .before)) (omega (arith, h .ensures, c .if1 .taken))))
+    let k = c .before in
+    let l = start k .args .l in
+    sym (take-none (ledgerIn l) (k .before .oldest .result) (k .before .oldest .ensures) (omega (arith, held-length (l .entries) (l .count) (slots k), k .least .ensures, c .if1 .taken)))
 
 mul-e : tie.Need-mul-e
 mul-e c = search needs
@@ -47,25 +41,20 @@ without-requires c κs = search needs
 
 returns-2 : tie.Need-returns-2
 returns-2 c =
-    let k = c .before .before .before .before in
-    let l = k .before .before .before .args .l in
-    let h = k .before .before in
-    let i = k .oldest .result in
-    let w = c .before .without in
-    let least : min (w .result .count) 512 ≡ w .result .count = omega (arith, w .ensures .1, h .held .ensures) in
-    let inside : i < min (l .count) 512 = omega (arith, h .held .ensures, c .before .before .before .if1 .left) in
-    let at = slot (l .entries) (min (l .count) 512) i inside (rw (slots h) (omega arith)) in
-    let e = entryIn (getD (l .entries) i blank) in
-    let left : entriesIn (w .result .entries) (min (w .result .count) 512) ≡ take i (ledgerIn l .entries) ++ drop (suc i) (ledgerIn l .entries) =
-    rw least (rw (h .held .ensures, add-one i) at (w .ensures .0)) in
-    take-one (ledgerIn l) i (place k) e at (entriesIn (w .result .entries) (min (w .result .count) 512)) left
+    let w = c .before in
+    let o = w .before .before in
+    let k = o .before in
+    let l = start k .args .l in
+    let i = k .before .oldest .result in
+    let inside : i < min (l .count) mostEntries = omega (arith, k .least .ensures, o .if1 .left) in
+    take-one (ledgerIn l) i (k .before .oldest .ensures) _ (slot (l .entries) (l .count) (slots k) i inside _) _ (w .without .ensures)
 
 pub take-spec : {M : Type 1} → statement M
 take-spec =
     tie.close
     (tie.spec
-    held-requires
     oldest-requires
+    least-requires
     returns
     mul-e
     array-copy-out-e

@@ -1,14 +1,16 @@
 -- `list_all`: between reads the next answer's place lies within the output; the reads that are left are the measure.
 -- Assumes nothing.
-use Prim.Native.Nat.{_≤_}
 use mathlib.Core.Path.{_≡_}
 use lib.ListN.{length}
 use borrow.Author.Needs.{needs}
+use Rattle.program_io.specs.Places.{Ready}
+use Rattle.program_io.proofs.Places.{fewer}
+use Rattle.lister.specs.Sizes.{mostText}
 use Rattle.lister.proofs.list_all.Statement.{statement}
 use Rattle.lister.proofs.list_all.Tie as tie
 
 abbrev Inv-loop : tie.InvT-loop
-Inv-loop block₀ line₀ out₀ state₀ reads₀ block line out state reads = (length block ≡ length block₀) × (length out ≡ length out₀) × (state .at ≤ length out) × (4096 ≤ length out)
+Inv-loop block₀ line₀ out₀ state₀ reads₀ block line out state reads = (length block ≡ length block₀) × (length out ≡ length out₀) × Ready out (state .at) mostText
 
 abbrev μ-loop : tie.MeasureT-loop
 μ-loop block₀ line₀ out₀ state₀ reads₀ block line out state reads = reads
@@ -23,7 +25,10 @@ reads-left-requires : tie.Need-reads-left-requires Inv-loop μ-loop
 reads-left-requires c κs = search needs
 
 loop-less : tie.Need-loop-less Inv-loop μ-loop
-loop-less c = search needs
+loop-less c =
+    let listed = c .before .before .before .before .before in
+    let turn = listed .before .before .before .before in
+    rw (c .reads-left .ensures) (fewer (turn .before .loop .reads) (listed .list-some .result .more) (turn .loop-test .taken))
 
 loop-again : tie.Need-loop-again Inv-loop μ-loop
 loop-again c = search needs

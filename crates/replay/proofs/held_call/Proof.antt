@@ -3,14 +3,14 @@ use borrow.Author.Needs.{needs}
 use Rattle.replay.proofs.held_call.Statement.{statement}
 use Rattle.replay.proofs.held_call.Tie as tie
 
-first-requires : tie.Need-first-requires
-first-requires c κs = search needs
+front-requires : tie.Need-front-requires
+front-requires c κs = search needs
 
 read-call-requires : tie.Need-read-call-requires
 read-call-requires c κs = search needs
 
 returns : tie.Need-returns
-returns c = rw (← c .before .before .first .ensures) (c .read-call .ensures)
+returns c = rw (← c .before .before .front .ensures) (c .read-call .ensures)
 
 pub held-call-spec : {M : Type 1} → statement M
-held-call-spec = tie.close (tie.spec first-requires read-call-requires returns)
+held-call-spec = tie.close (tie.spec front-requires read-call-requires returns)

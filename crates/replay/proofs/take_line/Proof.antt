@@ -9,8 +9,8 @@ use Rattle.replay.proofs.take_line.Tie as tie
 line-end-requires : tie.Need-line-end-requires
 line-end-requires c κs = search needs
 
-first-requires : tie.Need-first-requires
-first-requires c κs = search needs
+front-requires : tie.Need-front-requires
+front-requires c κs = search needs
 
 hold-requires : tie.Need-hold-requires
 hold-requires c κs = search needs
@@ -27,7 +27,7 @@ returns c =
       ends = e .ensures;
       whole = sym (lt-ltb _ _ (c .if1 .taken));
       taken = refl;
-      holds = rw (← c .before .before .before .first .ensures) (h .1);
+      holds = rw (← c .before .before .before .front .ensures) (h .1);
       some = omega arith;
       within = omega (arith, c .if1 .taken);
       few = h .0;
@@ -42,7 +42,7 @@ returns-2 c =
       ends = e .ensures;
       whole = sym (le-ltb _ _ (c .if1 .left));
       taken = omega arith;
-      holds = rw (← c .before .before .before .first .ensures) (h .1);
+      holds = rw (← c .before .before .before .front .ensures) (h .1);
       some = omega (arith, c .if1 .left, c .before .before .before .before .before .before .pre .0);
       within = e .ensures .within;
       few = h .0;
@@ -50,4 +50,4 @@ returns-2 c =
 
 pub take-line-spec : {M : Type 1} → statement M
 take-line-spec =
-    tie.close (tie.spec line-end-requires first-requires hold-requires add-t10 returns returns-2)
+    tie.close (tie.spec line-end-requires front-requires hold-requires add-t10 returns returns-2)

@@ -98,7 +98,10 @@ fn codecs(suite: &mut Suite, least: u64) {
         &frames::hostile(),
         |layout| codec::reads_alike(&layout.octets(), &mut read),
     );
-    let cursors = (frames::any_frame(), any::<[u32; 3]>().prop_map(small));
+    let cursors = (
+        frames::any_frame(),
+        any::<boundary::Cursor>().prop_map(small),
+    );
     suite.property(
         "read: a walk begun anywhere",
         part(1),
@@ -133,7 +136,7 @@ fn codecs(suite: &mut Suite, least: u64) {
 }
 
 /// A cursor that may lie in a frame.
-fn small([long, place, left]: [u32; 3]) -> [u32; 3] {
+fn small([long, place, left]: boundary::Cursor) -> boundary::Cursor {
     let place = if place % 8 == 0 { place } else { place % 1_024 };
     let left = if left % 8 == 0 { left } else { left % 200 };
     [long % 3, place, left]

@@ -1,0 +1,5 @@
+pub mod Apart
+pub mod Choices
+pub mod Lists
+pub mod Parts
+pub mod Laying

@@ -1,0 +1,135 @@
+-- Why the secondary gives none of 13, 14 and 15 while both ends are joined: whatever it holds and lists, and what arrives, waits at the master,
+-- which holds at most 512.
+-- Assumes nothing.
+use mathlib.Core.Path.{_≡_, _∙_}
+use mathlib.Core.Bool.{true, false}
+use mathlib.Core.List.{List, [], _∷_}
+use mathlib.Core.Logic.{_⊎_, inl, inr, ⊎-elim}
+use Prim.Native.Nat.{ℕ, _+_, _-_, _≤_, _<_}
+use native.Mathlib.Omega.{arith}
+use lib.ListN.{length, drop, length-map}
+use Rattle.basics.proofs.Lists.{inserted, length-inserted}
+use Rattle.circle.specs.Lengths.{isLength, half}
+use Rattle.bearer.specs.Bearer.{mostRuns, mostRecords, mostEntries}
+use Rattle.bearer.specs.Losses.{Gap}
+use Rattle.bearer.specs.Keeper.{limitOf}
+use Rattle.bearer.specs.Rule.{isIn, isOpen}
+use Rattle.bearer.specs.Packets.{In, Each}
+use Rattle.bearer.specs.World.{World}
+use Rattle.bearer.specs.KeeperMeaning.{Held, indexes, packetsFrom, packetsOf, Maximal}
+use Rattle.bearer.proofs.Lists.Mapped.{each-so}
+use Rattle.bearer.proofs.Lists.Elements.{in-head, in-cons, in-right, in-each, each-in, rising-first, in-inserted, rising-inserted, in-none}
+use Rattle.bearer.proofs.Lists.Rows.{run-in}
+use Rattle.bearer.proofs.Secondary.Index.{Indexed, froms, firstBack, floorI, placeI, runsAfterI}
+use Rattle.bearer.proofs.Secondary.Open.{open-is}
+use Rattle.bearer.proofs.Secondary.Runs.{maximal-first, maximal-tail, maximal-rising, each-with-runs, maximal-with-runs}
+use Rattle.bearer.proofs.Secondary.Follows.{record-received, recorded, not-lost}
+use Rattle.bearer.proofs.Secondary.GivenUp.{lostGaps, lost-gaps-from, lost-gaps-below, lost-gaps-maximal}
+use Rattle.bearer.proofs.Master.Marks.{waitingOf}
+use Rattle.bearer.proofs.Joint.Joined.{Joint}
+use Rattle.bearer.proofs.Joint.Delivery.{base-sent}
+use Rattle.bearer.proofs.Joint.Waiting.{runs-count, waits-unlost, waits-untold, at-most, sent-most, sent-near}
+
+-- the first packets of runs are packets of theirs
+first-in : (gs : List Gap) → Maximal gs → (f : ℕ) → In f (froms gs) → In f (packetsOf gs)
+first-in [] m f p = absurd (in-none p)
+first-in (g ∷ gs) m f p =
+    ⊎-elim (λ q. rw q (run-in g gs (g .from) (omega arith) (maximal-first g gs m)))
+    (λ q. in-right f (packetsFrom (g .from) (g .to - g .from)) (packetsOf gs) (first-in gs (maximal-tail g gs m) f q))
+    (in-cons f (g .from) (froms gs) p)
+
+-- ---- 14 isn't given
+
+module _ {L first : ℕ} (ok : isLength L ≡ true) {w : World} (j : Joint L first w) (o : w .keeper .closed ≡ false) where
+  abbrev a : Indexed
+  a = j .second .a
+
+  -- packets from base on were not lost, so they wait
+  from-base : (y : ℕ) → a .base ≤ y → y < length (w .sent) → In y (waitingOf (w .ledger .entries))
+  from-base y h k = waits-unlost ok j o y (let c = j .second .cut-base in omega arith) k (not-lost (j .second .follows) y h)
+
+  -- and at most 512 of them were sent
+  pub base-near : length (w .sent) ≤ a .base + mostEntries
+  base-near = sent-most ok j o (a .base) from-base
+
+  -- from the first of the runs on all packets wait, so the runs are few
+  pub few-runs : (l : ℕ) → a .base + l ≤ length (w .sent) → length (runsAfterI a l) ≤ mostRuns
+  few-runs l h =
+      let F = j .second .follows in
+      let news = lostGaps a l in
+      by (runsAfterI a l)
+      (maximal-with-runs (a .base) (a .runs) news (F .runs .maximal) (lost-gaps-maximal F l) (F .runs .before) (lost-gaps-from F l))
+      -- a run starts at a loss still to be told, or from base on
+      (each-in (λ (g : Gap). g .from) (λ (f : ℕ). In f (froms (a .runs)) ⊎ (a .base ≤ f)) (runsAfterI a l)
+      (each-with-runs (λ (g : Gap). In (g .from) (froms (a .runs)) ⊎ (a .base ≤ g .from)) (λ x y t u. t) (a .runs) news
+      (in-each (λ (g : Gap). g .from) (λ (f : ℕ). In f (froms (a .runs)) ⊎ (a .base ≤ f)) (a .runs) (λ f t. inl t))
+      (each-so news (λ g u. inr u) (lost-gaps-from F l))))
+      (each-with-runs (λ (g : Gap). g .to ≤ length (w .sent)) (λ x y t u. u) (a .runs) news
+      (each-so (a .runs) (λ g u. let b = base-sent (j .second) in omega arith) (F .runs .before))
+      (each-so news (λ g u. omega arith) (lost-gaps-below F l)))
+    where
+      -- a listed run's first packet is still to be told
+      untold : (f : ℕ) → In f (froms (a .runs)) → In f (drop (j .second .told) (w .fates .lost))
+      untold f p = rw (← j .second .follows .runs .hold) (first-in (a .runs) (j .second .follows .runs .maximal) f p)
+
+      by : (gs : List Gap) → Maximal gs → ((f : ℕ) → In f (froms gs) → In f (froms (a .runs)) ⊎ (a .base ≤ f)) → Each (λ (g : Gap). g .to ≤ length (w .sent)) gs → length gs ≤ mostRuns
+      by [] m s e = omega arith
+      by (g ∷ gs) m s e =
+          let near : length (w .sent) ≤ g .from + mostEntries =
+          sent-most ok j o (g .from) (λ y p q.
+          ⊎-elim (λ t. waits-untold ok j o (g .from) y (untold (g .from) t) p q) (λ t. from-base y (omega arith) q) (s (g .from) (in-head (g .from) (froms gs))))
+          in
+          let c = runs-count (g .from) (length (w .sent)) (g ∷ gs) m (rising-first (g .from) (froms gs) (maximal-rising (g ∷ gs) m)) e in
+          omega arith
+
+-- ---- none is given to a packet that is open
+
+module _ {L first : ℕ} (ok : isLength L ≡ true) {w : World} (j : Joint L first w) (o : w .keeper .closed ≡ false) (d : ℕ)
+    (sent-it : j .second .a .base + d < length (w .sent)) (fresh : isIn (j .second .a .base + d) (w .fates .received) ≡ false) where
+  -- the packet
+  abbrev i : ℕ
+  i = j .second .a .base + d
+
+  -- 13: from the cut to the last packet sent it is less than half the circle
+  pub floor-near : floorI (j .second .a) + d < half L
+  floor-near =
+      let s = j .second in
+      let c = s .cut-base in
+      let near = sent-near ok j o (omega arith) in
+      let runs = back-runs (s .a .runs) (λ x p. s .divides .above x (rw (← s .follows .runs .hold) p)) (s .follows .runs .maximal) in
+      let recs = back-records (s .a .records) (s .remembered .from-cut) in
+      omega arith
+    where
+      back-runs : (gs : List Gap) → ((x : ℕ) → In x (packetsOf gs) → j .second .cut ≤ x) → Maximal gs → firstBack (j .second .a .base) (froms gs) ≤ j .second .a .base - j .second .cut
+      back-runs [] f m = omega arith
+      back-runs (g ∷ gs) f m = let c = f (g .from) (run-in g gs (g .from) (omega arith) (maximal-first g gs m)) in omega arith
+
+      back-records : (hs : List Held) → Each (λ (h : Held). j .second .cut ≤ h .index) hs → firstBack (j .second .a .base) (indexes hs) ≤ j .second .a .base - j .second .cut
+      back-records [] e = omega arith
+      back-records (h ∷ hs) e = let c = e .0 in omega arith
+
+  -- 14
+  pub runs-near : length (runsAfterI (j .second .a) (limitOf d)) ≤ mostRuns
+  runs-near = few-runs ok j o (limitOf d) (omega arith)
+
+  -- 15: the packet and all that have records wait at the master
+  pub records-near : length (j .second .a .records) < mostRecords
+  records-near =
+      let s = j .second in
+      let xs = indexes (s .a .records) in
+      let p = placeI (s .a) i in
+      let most =
+      at-most ok j o (inserted p i xs) (rising-inserted i xs (s .follows .records .rising) (recorded (s .follows) i (omega arith) ∙ fresh)) (λ x q.
+      ⊎-elim
+      (λ e. rw e (from-base ok j o i (omega arith) sent-it))
+      (λ t.
+      let got = record-received (s .follows) x t in
+      waits-unlost ok j o x (each-in (λ (h : Held). h .index) (λ (x : ℕ). s .cut ≤ x) (s .a .records) (s .remembered .from-cut) x t) (s .were-sent .received x got) (s .follows .fates .not-both x got))
+      (in-inserted x p i xs q))
+      in
+      let one = length-inserted p i xs in
+      let same = length-map (s .a .records) (λ (h : Held). h .index) in
+      omega (arith, most, one, same)
+
+  pub was-open : isOpen (w .fates) i ≡ true
+  was-open = open-is (w .fates) i fresh (not-lost (j .second .follows) i (omega arith))

@@ -1,0 +1,116 @@
+-- Labels change nothing: the master's machine on entries with one kind of label, and on the same entries relabelled, gives the same answers
+-- and the same ledger relabelled. So what is proved with packets written on the entries holds of the engine's entries, which bear none.
+-- Assumes nothing.
+use mathlib.Core.Path.{_≡_, refl, sym, _∙_, ap}
+use mathlib.Core.Bool.{Bool, true, false, not}
+use mathlib.Core.List.{List, [], _∷_, _++_, map}
+use mathlib.Core.Option.{Option, none, some}
+use Prim.Native.Nat.{ℕ, suc}
+use lib.Dec.{ltb, leb, eqb}
+use lib.ListN.{take, drop, length-map}
+use Rattle.basics.specs.Basics.{if_then_else_, _and_, _or_, alike}
+use Rattle.basics.proofs.Choices.{choice}
+use Rattle.basics.proofs.Lists.{map-take, map-drop}
+use Rattle.circle.specs.Lengths.{isLong, pdcps}
+use Rattle.frame_layout.specs.Frames.{Range, Status, Reading, data-of, status-of, refuse, readFrame}
+use Rattle.bearer.specs.Bearer.{After, answering, mostEntries}
+use Rattle.bearer.specs.Ledger.{Entry, Ledger, _with-entries_, newEntry, countsOf, acceptedState, takenOf, Passed, waits, bears, noteIn, afterNumber, markLost, waitsFor, kept, counted, freeThrough, freed, inOrder, send, sentState, acceptMarked, acceptReading, accept, takeAt, takeFrom, takeOldest}
+
+module _ {A B : Type 0} (f : A → B) where
+  -- an entry, a ledger, a pass and a call's outcome under other labels
+  abbrev pub entryAs : Entry A → Entry B
+  entryAs e = record { number = e .number; pdcp = e .pdcp; fate = e .fate; label = f (e .label) }
+
+  abbrev pub entriesAs : List (Entry A) → List (Entry B)
+  entriesAs es = map entryAs es
+
+  abbrev pub relabelled : Ledger A → Ledger B
+  relabelled l = l with-entries entriesAs (l .entries)
+
+  abbrev passedAs : Passed A → Passed B
+  passedAs p = record { entries = entriesAs (p .entries); count = p .count }
+
+  abbrev markedAs : Option (Passed A) → Option (Passed B)
+  markedAs none = none
+  markedAs (some p) = some (passedAs p)
+
+  abbrev pub outcomeAs : {C : Type 0} → After (Ledger A) C → After (Ledger B) C
+  outcomeAs x = record { answer = x .answer; state = relabelled (x .state) }
+
+  entries-append : (xs ys : List (Entry A)) → entriesAs (xs ++ ys) ≡ entriesAs xs ++ entriesAs ys
+  entries-append [] ys = refl
+  entries-append (x ∷ xs) ys = ap (λ (l : List (Entry B)). entryAs x ∷ l) (entries-append xs ys)
+
+  -- ---- send
+
+  pub send-as : (l : Ledger A) (p : ℕ) (a : A) → send (relabelled l) p (f a) ≡ outcomeAs (send l p a)
+  send-as l p a =
+      choice outcomeAs {t = l .closed} refl refl
+      (choice outcomeAs {t = not (ltb p (pdcps (l .bits)))} refl refl
+      (choice outcomeAs {t = not (inOrder l p)} refl refl
+      (choice outcomeAs (ap (leb mostEntries) (length-map (l .entries) entryAs)) refl
+      (ap (λ (es : List (Entry B)). answering (l .next) (sentState l p a with-entries es)) (sym (entries-append (l .entries) (newEntry (l .next) p a ∷ [])))))))
+
+  -- ---- accepting
+
+  note-as : (b : Bool) (e : Entry A) (o : Option (Passed A)) → noteIn b (entryAs e) (markedAs o) ≡ markedAs (noteIn b e o)
+  note-as b e none = refl
+  note-as true e (some p) = refl
+  note-as false e (some p) = refl
+
+  mark-as : (L : ℕ) (es : List (Entry A)) (rs : List Range) → markLost L (entriesAs es) rs ≡ markedAs (markLost L es rs)
+  mark-as L [] [] = refl
+  mark-as L [] (r ∷ rs) = refl
+  mark-as L (e ∷ es) [] = refl
+  mark-as L (e ∷ es) (r ∷ rs) =
+      ap (noteIn (bears e (r .start)) (entryAs e)) (mark-as L es (if bears e (r .start) then afterNumber L r rs else (r ∷ rs)))
+      ∙ note-as (bears e (r .start)) e (markLost L es (if bears e (r .start) then afterNumber L r rs else (r ∷ rs)))
+
+  waits-for-as : (h : ℕ) (es : List (Entry A)) → waitsFor h (entriesAs es) ≡ waitsFor h es
+  waits-for-as h [] = refl
+  waits-for-as h (e ∷ es) = ap (λ (b : Bool). (waits e and eqb (e .pdcp) h) or b) (waits-for-as h es)
+
+  free-as : (h : ℕ) (es : List (Entry A)) → freeThrough h (entriesAs es) ≡ passedAs (freeThrough h es)
+  free-as h [] = refl
+  free-as h (e ∷ es) =
+      choice passedAs {t = not (waits e)} refl (ap (kept (entryAs e)) (free-as h es)) (choice passedAs {t = eqb (e .pdcp) h} refl refl (ap counted (free-as h es)))
+
+  freed-as : (l : Ledger A) (h : ℕ) (es : List (Entry A)) → freed (relabelled l) h (entriesAs es) ≡ passedAs (freed l h es)
+  freed-as l h es = choice passedAs {t = eqb h (l .highest)} refl refl (free-as h es)
+
+  accept-marked-as : (l : Ledger A) (s : Status) (m : Option (Passed A)) → acceptMarked (relabelled l) s (markedAs m) ≡ outcomeAs (acceptMarked l s m)
+  accept-marked-as l s none = refl
+  accept-marked-as l s (some m) =
+      choice outcomeAs (ap (λ (b : Bool). not (eqb (s .highest) (l .highest) or b)) (waits-for-as (s .highest) (m .entries))) refl
+      (ap (λ (p : Passed B). answering (countsOf s (p .count) (m .count)) (acceptedState (relabelled l) s (p .entries)))
+      (freed-as l (s .highest) (m .entries)))
+
+  accept-reading-as : (l : Ledger A) (r : Reading) → acceptReading (relabelled l) r ≡ outcomeAs (acceptReading l r)
+  accept-reading-as l (data-of long n) = refl
+  accept-reading-as l (status-of s) =
+      choice outcomeAs {t = not (alike (s .long) (isLong (l .bits)))} refl refl
+      (choice outcomeAs {t = leb (pdcps (l .bits)) (s .highest)} refl refl
+      (ap (acceptMarked (relabelled l) s) (mark-as (l .bits) (l .entries) (s .ranges)) ∙ accept-marked-as l s (markLost (l .bits) (l .entries) (s .ranges))))
+  accept-reading-as l (refuse n) = refl
+
+  pub accept-as : (l : Ledger A) (o : List ℕ) → accept (relabelled l) o ≡ outcomeAs (accept l o)
+  accept-as l o = choice outcomeAs {t = l .closed} refl refl (accept-reading-as l (readFrame o))
+
+  -- ---- take
+
+  take-at-as : (c : Bool) (es : List (Entry A)) → takeAt c (entriesAs es) ≡ takeAt c es
+  take-at-as c [] = refl
+  take-at-as c (e ∷ es) = ap (λ (n : ℕ). if c or not (waits e) then 0 else suc n) (take-at-as c es)
+
+  take-from-as : (l : Ledger A) (xs ys : List (Entry A)) → takeFrom (relabelled l) (entriesAs xs) (entriesAs ys) ≡ outcomeAs (takeFrom l xs ys)
+  take-from-as l xs [] = refl
+  take-from-as l xs (e ∷ es) =
+      ap (λ (ds : List (Entry B)). answering (takenOf e) (l with-entries ds)) (sym (entries-append xs es))
+
+  pub take-as : (l : Ledger A) → takeOldest (relabelled l) ≡ outcomeAs (takeOldest l)
+  take-as l =
+      let n = takeAt (l .closed) (l .entries) in
+      ap (λ (i : ℕ). takeFrom (relabelled l) (take i (entriesAs (l .entries))) (drop i (entriesAs (l .entries)))) (take-at-as (l .closed) (l .entries))
+      ∙ ap (λ (xs : List (Entry B)). takeFrom (relabelled l) xs (drop n (entriesAs (l .entries)))) (map-take entryAs n (l .entries))
+      ∙ ap (takeFrom (relabelled l) (entriesAs (take n (l .entries)))) (map-drop entryAs n (l .entries))
+      ∙ take-from-as l (take n (l .entries)) (drop n (l .entries))

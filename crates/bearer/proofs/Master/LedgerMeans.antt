@@ -1,0 +1,245 @@
+-- Every ledger that calls reach from open means what document 01 says, and so does every status that such a ledger accepts
+-- (specs/LedgerMeaning.antt): each accepted call keeps a sound ledger (Sound.antt), and a sound ledger means that.
+-- Assumes nothing.
+use mathlib.Core.Path.{_≡_, refl, sym, _∙_, ap}
+use mathlib.Core.Bool.{Bool, true, false, not}
+use mathlib.Core.List.{List, [], _∷_, _++_, map}
+use mathlib.Core.Logic.{_⊎_, inl, inr, ⊎-elim}
+use Prim.Native.Nat.{ℕ, suc, _+_, _-_, _/_, _≤_, _<_}
+use native.Mathlib.Omega.{arith}
+use native.Mathlib.Nat.{mod-lt}
+use borrow.Author.Tests.{not-false}
+use lib.Dec.{leb, ltb}
+use lib.ListN.{length, take, drop, length-append, take-append-drop}
+use Rattle.basics.specs.Basics.{if_then_else_, _or_, done, refused, isDone}
+use Rattle.basics.proofs.Choices.{tested, contrary, done-one, or-false}
+use Rattle.circle.specs.Circle.{forward}
+use Rattle.circle.specs.Lengths.{isLength, modulusOf, pdcps}
+use Rattle.bearer.specs.Bearer.{mostEntries}
+use Rattle.bearer.specs.Ledger.{newEntry, Entry, Ledger, Accepted, Taken, takenOf, waits, freshLedger, openLedger, inOrder, send, sentState, markLost, freed, accept, takeFrom, takeOldest, takeAt}
+use Rattle.bearer.specs.Packets.{packets, Rising, In, Each}
+use Rattle.bearer.specs.LedgerMeaning.{LedgerReached, opened as opens, sending, accepting, taking, waitingIn, lostIn, pastHighest, StatusMeans, TakenFrom, this-one, passes-over, LedgersMean, SendsMean, TakesMean, StatusesMean}
+use Rattle.bearer.proofs.Lists.Mapped.{each-so}
+use Rattle.bearer.proofs.Lists.Numbers.{positive, same-packet}
+use Rattle.bearer.proofs.Lists.Lengths.{roomy}
+use Rattle.bearer.proofs.Answers.Accepted.{not-refused, opened}
+use Rattle.bearer.proofs.Master.Pdcps.{pdcpOf, faster, few}
+use Rattle.bearer.proofs.Master.Sound.{Entries, entries-rest, Master, Sends, send-cases, master-sends}
+use Rattle.bearer.proofs.Master.Takes.{Left, take-cases, master-left}
+use Rattle.bearer.proofs.Master.Turned.{turns-lost}
+use Rattle.bearer.proofs.Master.Applied.{master-opened, waiting-rising, waiting-sent, length-turned}
+use Rattle.bearer.proofs.Master.AcceptsAny.{Passes, passes, freed-count, frees-by}
+
+-- a sound ledger, and the sum
+record Sound (L first : ℕ) (l : Ledger ℕ) (sent : List ℕ) (freed taken : ℕ) : Type 0 where
+  pub ok : isLength L ≡ true
+  pub cut : ℕ
+  pub master : Master L first cut sent l
+  pub sum : length (l .entries) + freed + taken ≡ length sent
+
+module _ (L first : ℕ) (l : Ledger ℕ) (sent : List ℕ) (freed₀ taken : ℕ) (x : Sound L first l sent freed₀ taken) where
+  -- an accepted status does as it says, and keeps a sound ledger
+  accept-step : (o : List ℕ) (a : Accepted) → Passes l o a → StatusMeans L sent l o a × Sound L first (accept l o .state) sent (freed₀ + a .freed) taken
+  accept-step o a p =
+      let m = x .master in
+      let fits : Each (λ (e : Entry ℕ). e .number < modulusOf L) (l .entries) = each-so (l .entries) (λ e k. rw (k .numbered) (mod-lt (first + e .label) (positive L))) (m .entries-are .sent-as) in
+      let t = turns-lost L (l .entries) (p .frame .ranges) (p .pass) fits (ap (λ (b : ℕ). markLost b (l .entries) (p .frame .ranges)) (sym (m .bits-are)) ∙ p .found) in
+      let f = frees-by (x .ok) m (p .frame) (t .turned) (p .named) in
+      let left : accept l o .state .entries ≡ freed l (p .frame .highest) (p .pass .entries) .entries = ap (λ (y : Ledger ℕ). y .entries) (p .state-is) in
+      let count : a .freed + length (accept l o .state .entries) ≡ length (l .entries) =
+      let c = freed-count l (p .frame .highest) (p .pass .entries) in
+      let d = ap length left in
+      let n = length-turned (t .turned) in
+      let g = p .freed-is in
+      omega (arith, c, d, n, g)
+      in (
+        record {
+          frame = p .frame;
+          read = p .read;
+          applied = p .pass .entries;
+          become-lost = t .turned;
+          lost-count = p .lost-is ∙ t .count-is;
+          are-freed = rw left (f .freed-by);
+          freed-count = count;
+          highest-is = ap (λ (x : Ledger ℕ). x .highest) (p .state-is);
+          desired-is = ap (λ (x : Ledger ℕ). x .desired) (p .state-is);
+          minimum-is = ap (λ (x : Ledger ℕ). x .minimum) (p .state-is);
+          final-closes = ap (λ (x : Ledger ℕ). x .closed) (p .state-is);
+        },
+        record {
+          ok = x .ok;
+          cut = f .cut;
+          master = rw (p .state-is) (f .master);
+          sum = let s = x .sum in omega (arith, count, s);
+        },
+      )
+
+  -- an accepted send is one packet more, and one entry
+  send-step : (p n : ℕ) → send l p (length sent) .answer ≡ done n → Sound L first (send l p (length sent) .state) (sent ++ (p ∷ [])) freed₀ taken
+  send-step p n e =
+      ⊎-elim (λ r. absurd (contrary (ap isDone e) (r .0))) (λ r. rw (r .1) (goes-out (r .2)))
+      (send-cases L p (length sent) l (x .master .bits-are))
+    where
+      goes-out : Sends L l p → Sound L first (sentState l p (length sent)) (sent ++ (p ∷ [])) freed₀ taken
+      goes-out s = record {
+        ok = x .ok;
+        cut = x .cut;
+        master = master-sends (x .ok) (x .master) s;
+        sum = let h = x .sum in omega (arith, h, length-append (l .entries) (newEntry (l .next) p (length sent) ∷ []), length-append sent (p ∷ []));
+      }
+
+  -- an accepted take is one entry less
+  take-step : (t : Taken) → takeOldest l .answer ≡ done t → Sound L first (takeOldest l .state) sent freed₀ (taken + 1)
+  take-step t e =
+      let less = shorter (take i (l .entries)) (drop i (l .entries)) e in
+      let whole : length (take i (l .entries)) + length (drop i (l .entries)) ≡ length (l .entries) = sym (length-append (take i (l .entries)) (drop i (l .entries))) ∙ ap length (take-append-drop i (l .entries)) in
+      let left : Left l (takeOldest l .state) = ⊎-elim (λ s. absurd (let q = ap (λ (y : Ledger ℕ). length (y .entries)) s in omega (arith, q, less, whole))) (λ s. s) (take-cases l) in
+      record {
+        ok = x .ok;
+        cut = x .cut;
+        master = master-left (x .master) left;
+        sum = let h = x .sum in omega (arith, h, less, whole);
+      }
+    where
+      i : ℕ
+      i = takeAt (l .closed) (l .entries)
+
+      shorter : (front es : List (Entry ℕ)) → takeFrom l front es .answer ≡ done t → suc (length (takeFrom l front es .state .entries)) ≡ length front + length es
+      shorter front [] e = absurd (let z : _≡_ {A = ℕ} 0 1 = cc in omega arith)
+      shorter front (d ∷ es) e = omega (arith, length-append front es)
+
+-- a ledger is sound when it is opened
+open-step : (L first f : ℕ) (l : Ledger ℕ) → openLedger L first f ≡ done l → Sound L first l [] 0 0
+open-step L first f l e =
+    let o = opened L first f (freshLedger L first f) l e in
+    rw (← o .is) (record { ok = o .ok; cut = 0; master = master-opened L first f (o .ok) (o .small); sum = refl })
+
+sound : (L first f : ℕ) {l : Ledger ℕ} {sent : List ℕ} {freed taken : ℕ} → LedgerReached L first f l sent freed taken → Sound L first l sent freed taken
+sound L first f (opens {l = l} e) = open-step L first f l e
+sound L first f (sending {l = l} {sent = sent} {freed = freed} {taken = taken} p n x e) = send-step L first l sent freed taken (sound L first f x) p n e
+sound L first f (accepting {l = l} {sent = sent} {freed = freed} {taken = taken} o a x e) = accept-step L first l sent freed taken (sound L first f x) o a (passes l o a e) .1
+sound L first f (taking {l = l} {sent = sent} {freed = freed} {taken = taken} t x e) = take-step L first l sent freed taken (sound L first f x) t e
+
+-- every status that a reached ledger accepts does as it says
+pub statuses-mean : StatusesMean
+statuses-mean L first f l sent freed taken x o a e = accept-step L first l sent freed taken (sound L first f x) o a (passes l o a e) .0
+
+-- ---- what a sound ledger means
+
+-- every entry waits or is lost
+counts-sum : (es : List (Entry ℕ)) → length (waitingIn es) + length (lostIn es) ≡ length es
+counts-sum [] = refl
+counts-sum (e ∷ es) = go (waits e) (counts-sum es)
+  where
+    go : (b : Bool) → length (waitingIn es) + length (lostIn es) ≡ length es
+        → length (if b then e ∷ waitingIn es else waitingIn es) + length (if b then lostIn es else e ∷ lostIn es) ≡ suc (length es)
+    go true h = omega arith
+    go false h = omega arith
+
+module _ {L first cut : ℕ} {sent : List ℕ} {l : Ledger ℕ} (ok : isLength L ≡ true) (m : Master L first cut sent l) where
+  -- a packet that was sent past H, and its PDCP number
+  abbrev SentPast : Entry ℕ → Type 0
+  SentPast e = (cut ≤ e .label) × (e .label < length sent) × (e .pdcp ≡ pdcpOf sent (e .label))
+
+  -- such is every waiting entry
+  waiting-past : (es : List (Entry ℕ)) → Entries L first cut sent es → Each SentPast (waitingIn es)
+  waiting-past [] s = tt
+  waiting-past (e ∷ es) s = go (waits e) refl (waiting-past es (entries-rest s))
+    where
+      go : (b : Bool) → waits e ≡ b → Each SentPast (waitingIn es) → Each SentPast (if b then e ∷ waitingIn es else waitingIn es)
+      go true w r = let here = s .sent-as .0 in ((s .from-cut .0 w, here .was-sent, here .pdcp-is), r)
+      go false w r = r
+
+  -- forward from H it is more than 0, less than half the PDCP numbers, and ever farther
+  forward-past : (e : Entry ℕ) → SentPast e → 0 < pastHighest L l e
+  forward-past e k = rw (k .2) (m .ordered .past (e .label) (k .0) (k .1))
+
+  forward-half : (e : Entry ℕ) → SentPast e → pastHighest L l e < pdcps L / 2
+  forward-half e k =
+      let d = length sent - 1 - e .label in
+      let last : e .label + d ≡ length sent - 1 = omega (arith, k .1) in
+      let far = faster (roomy L ok .some-pdcps) (m .ordered) (e .label) d (k .0) (omega (arith, k .1)) in
+      let near : forward (pdcps L) (l .highest) (pdcpOf sent (e .label + d)) < pdcps L / 2 = rw last (m .ordered .last-near (omega (arith, k .0, k .1))) in
+      rw (k .2) (omega (arith, far, near))
+
+  forward-rises : (ws : List (Entry ℕ)) → Rising (packets ws) → Each SentPast ws → Rising (map (pastHighest L l) ws)
+  forward-rises [] r a = tt
+  forward-rises (e ∷ []) r a = tt
+  forward-rises (e ∷ d ∷ ws) r a =
+      (rw (a .0 .2, a .1 .0 .2) (m .ordered .up (e .label) (d .label) (a .0 .0) (r .0) (a .1 .0 .1)), forward-rises (d ∷ ws) (r .1) (a .1))
+
+  -- fewer than half the PDCP numbers lie between any two waiting packets
+  waiting-span : (i j : ℕ) → In i (packets (waitingIn (l .entries))) → In j (packets (waitingIn (l .entries))) → suc j < i + pdcps L / 2
+  waiting-span i j hi hj =
+      let a = waiting-sent i (l .entries) (m .entries-are) hi in
+      let b = waiting-sent j (l .entries) (m .entries-are) hj in
+      let f = few (roomy L ok .some-pdcps) (m .ordered) (omega (arith, a .0, a .1)) in
+      omega (arith, f, a .0, b .1)
+
+-- every ledger that calls reach means what document 01 says
+pub ledgers-mean : LedgersMean
+ledgers-mean L first f l sent freed taken x =
+    let s = sound L first f x in
+    let m = s .master in
+    let e = m .entries-are in
+    let a = waiting-past (s .ok) m (l .entries) e in
+    record {
+      same-length = m .bits-are;
+      sum = let h = s .sum in omega (arith, h, counts-sum (l .entries));
+      in-order = e .rising;
+      were-sent = each-so (l .entries) (λ d k. k .was-sent) (e .sent-as);
+      numbered = each-so (l .entries) (λ d k. k .numbered) (e .sent-as);
+      pdcps-are = each-so (l .entries) (λ d k. k .pdcp-is) (e .sent-as);
+      next-is = m .next-is;
+      pdcps-rise = forward-rises (s .ok) m (waitingIn (l .entries)) (waiting-rising (l .entries) (e .rising)) a;
+      past-highest = each-so (waitingIn (l .entries)) (forward-past (s .ok) m) a;
+      within-half = each-so (waitingIn (l .entries)) (forward-half (s .ok) m) a;
+      span = waiting-span (s .ok) m;
+      one-number = λ i j hi hj q.
+          let n = roomy L (s .ok) in
+          let p = waiting-span (s .ok) m i j hi hj in
+          let r = waiting-span (s .ok) m j i hj hi in
+          same-packet (modulusOf L) first (positive L) i j (omega (arith, r, n .halves, n .more-pdcps)) (omega (arith, p, n .halves, n .more-pdcps)) q;
+      most = e .most;
+    }
+
+-- ---- what sends and takes answer
+
+-- a number given out is the ledger's next, which is the next packet's
+given-out : (l : Ledger ℕ) (p a n : ℕ) → send l p a .answer ≡ done n → n ≡ l .next
+given-out l p a n e =
+    let shut = not-refused (l .closed) 9 l _ n e in
+    let bad = not-refused (not (ltb p (pdcps (l .bits)))) 10 l _ n (shut .1) in
+    let late = not-refused (not (inOrder l p)) 35 l _ n (bad .1) in
+    let full = not-refused (leb mostEntries (length (l .entries))) 36 l _ n (late .1) in
+    sym (done-one (l .next) n (full .1))
+
+pub sends-mean : SendsMean
+sends-mean L first f l sent freed taken x p n e = given-out l p (length sent) n e ∙ sound L first f x .master .next-is
+
+-- the entries from the place of a take on: the first of them goes, and those in front of it are passed over
+taken-from : (c : Bool) (t : Taken) (es : List (Entry ℕ)) (e : Entry ℕ) (b : List (Entry ℕ)) → drop (takeAt c es) es ≡ e ∷ b → t ≡ takenOf e
+    → TakenFrom c t es (take (takeAt c es) es ++ b)
+taken-from c t [] e b q h = absurd (let z : _≡_ {A = ℕ} 0 1 = cc in omega arith)
+taken-from c t (x ∷ es) e b q h = go (tested (c or not (waits x))) (taken-from c t es e b)
+  where
+    go : (c or not (waits x) ≡ true) ⊎ (c or not (waits x) ≡ false) → (drop (takeAt c es) es ≡ e ∷ b → t ≡ takenOf e → TakenFrom c t es (take (takeAt c es) es ++ b))
+        → TakenFrom c t (x ∷ es) (take (takeAt c (x ∷ es)) (x ∷ es) ++ b)
+    go (inl y) rest =
+        let same : x ∷ es ≡ e ∷ b = rw y at q in
+        let here : x ≡ e = cc in
+        let tail : es ≡ b = cc in
+        rw y (rw (← tail) (this-one x es y (h ∙ ap takenOf (sym here))))
+    go (inr y) rest = let n = or-false c (not (waits x)) y in rw y (passes-over x (n .0) (not-false (waits x) (n .1)) (rest (rw y at q) h))
+
+pub takes-mean : TakesMean
+takes-mean l t e = go (drop (takeAt (l .closed) (l .entries)) (l .entries)) refl
+  where
+    go : (rest : List (Entry ℕ)) → drop (takeAt (l .closed) (l .entries)) (l .entries) ≡ rest → TakenFrom (l .closed) t (l .entries) (takeOldest l .state .entries)
+    go [] q =
+        let none : takeOldest l .answer ≡ refused 38 = ap (λ (r : List (Entry ℕ)). takeFrom l (take (takeAt (l .closed) (l .entries)) (l .entries)) r .answer) q in
+        absurd (let z : _≡_ {A = ℕ} 0 1 = cc in omega arith)
+    go (x ∷ b) q =
+        let says : takeOldest l .answer ≡ done (takenOf x) = ap (λ (r : List (Entry ℕ)). takeFrom l (take (takeAt (l .closed) (l .entries)) (l .entries)) r .answer) q in
+        let state : takeOldest l .state .entries ≡ take (takeAt (l .closed) (l .entries)) (l .entries) ++ b = ap (λ (r : List (Entry ℕ)). takeFrom l (take (takeAt (l .closed) (l .entries)) (l .entries)) r .state .entries) q in
+        rw state (taken-from (l .closed) t (l .entries) x b q (done-one t (takenOf x) (sym e ∙ says)))

@@ -1,0 +1,102 @@
+-- The secondary's machine on numbers does what the machine on packet indexes does (Index.antt), wherever all packets of the
+-- state lie within half the circle of base: each call answers the same and leaves the image of the same state.
+-- Assumes nothing.
+use mathlib.Core.Path.{_≡_, refl, sym, _∙_, ap, ap₂}
+use mathlib.Core.Bool.{Bool, false, not}
+use Prim.Native.Nat.{ℕ, _+_, _-_, _≤_, _<_}
+use native.Mathlib.Omega.{arith}
+use native.Mathlib.Nat.{mod-lt}
+use borrow.Author.Tests.{lt-ltb, le-ltb}
+use lib.Dec.{ltb, leb, eqb}
+use lib.ListN.{length, length-map}
+use Rattle.basics.specs.Basics.{if_then_else_, _and_}
+use Rattle.basics.proofs.Choices.{otherwise, chosen, choice}
+use Rattle.basics.proofs.Lists.{map-inserted}
+use Rattle.circle.specs.Circle.{forward}
+use Rattle.circle.specs.Lengths.{modulusOf, half, pdcps, pdcpBefore}
+use Rattle.bearer.specs.Bearer.{mostRecords, refusing, answering}
+use Rattle.bearer.specs.Losses.{beforeBase, sizeOf}
+use Rattle.bearer.specs.Keeper as K
+use Rattle.bearer.specs.Keeper.{limitOf, _with-base_, _with-runs_, _with-records_}
+use Rattle.bearer.specs.Packets.{numberOf}
+use Rattle.bearer.specs.KeeperMeaning.{recordAt, indexes}
+use Rattle.bearer.proofs.Lists.Mapped.{front-within}
+use Rattle.bearer.proofs.Lists.Numbers.{first-number, whole, positive, to-later, before-base}
+use Rattle.bearer.proofs.Secondary.Index.{Indexed, freshIndexed, image, imageAfter, placeI, newHeld, arrivedI, arriveI, topI, expireI}
+use Rattle.bearer.proofs.Secondary.ImageState.{floor-is, place-is, given-up-is, runs-after-are, many-runs-are, base-after-is, arrived-base-is, has-is, top-is, top-near}
+pub use Rattle.bearer.proofs.Secondary.ImageState.{InReach}
+
+-- a fresh end is that of the machine on indexes
+pub image-fresh : (L first f : ℕ) → first < modulusOf L → K.freshKeeper L first f ≡ image L first (freshIndexed (pdcpBefore L f))
+image-fresh L first f small = ap (λ (n : ℕ). K.freshKeeper L n f) (first-number L first small)
+
+-- ---- a late arrival
+
+module _ (L first : ℕ) (a : Indexed) where
+  -- an open end, and numbers that are numbers: neither 9 nor 10
+  not-refused-10 : (i pdcp : ℕ) → pdcp < pdcps L → a .closed ≡ false
+      → K.arrive (image L first a) (numberOf L first i) pdcp
+      ≡ (if beforeBase (modulusOf L) (numberOf L first (a .base)) (numberOf L first i) then refusing 11 (image L first a) else
+      K.arriveAt (image L first a) (numberOf L first i) pdcp
+      (K.placeOf (image L first a) (forward (modulusOf L) (numberOf L first (a .base)) (numberOf L first i))) (forward (modulusOf L) (numberOf L first (a .base)) (numberOf L first i)))
+  not-refused-10 i pdcp fits not-closed =
+      otherwise _ _ not-closed
+      ∙ otherwise _ _ (ap₂ (λ (s t : Bool). not (s and t)) (lt-ltb (numberOf L first i) (modulusOf L) (mod-lt (first + i) (positive L))) (lt-ltb pdcp (pdcps L) fits))
+
+  -- the arrival of a packet before base is late
+  pub late : (i pdcp : ℕ) → i < a .base → a .base ≤ i + half L → pdcp < pdcps L → a .closed ≡ false
+      → K.arrive (image L first a) (numberOf L first i) pdcp ≡ refusing 11 (image L first a)
+  late i pdcp before near fits not-closed =
+      not-refused-10 i pdcp fits not-closed
+      ∙ chosen _ _ (before-base (modulusOf L) first (positive L) (whole L) (a .base) i near (omega arith) ∙ lt-ltb i (a .base) before)
+
+module _ (L first : ℕ) (a : Indexed) (reach : InReach L a) where
+  -- an accepted arrival
+  arrived-is : (pdcp d : ℕ) → d < half L
+      → K.arrived (image L first a) (numberOf L first (a .base + d)) pdcp (placeI a (a .base + d)) d ≡ image L first (arrivedI a pdcp (placeI a (a .base + d)) d)
+  arrived-is pdcp d h =
+      let runs = runs-after-are L first a reach (limitOf d) (omega arith) in
+      let records = map-inserted (recordAt L first) (placeI a (a .base + d)) (newHeld (a .base + d) pdcp) (a .records) in
+      λ i. image L first a with-base arrived-base-is L first a reach d i with-runs runs i with-records sym records i
+
+  arrive-at-is : (pdcp d : ℕ) → d < half L
+      → K.arriveAt (image L first a) (numberOf L first (a .base + d)) pdcp (placeI a (a .base + d)) d
+      ≡ imageAfter L first (arriveI (half L) a pdcp (placeI a (a .base + d)) d)
+  arrive-at-is pdcp d h =
+      choice (imageAfter L first) (has-is L first a reach d p h within) refl
+      (choice (imageAfter L first) (ap (λ (f : ℕ). leb (half L) (f + d)) (floor-is L first a reach)) refl
+      (choice (imageAfter L first) (many-runs-are L first a reach (limitOf d) (omega arith)) refl
+      (choice (imageAfter L first) (ap (leb mostRecords) (length-map (a .records) (recordAt L first))) refl
+      (λ i. answering (sizeOf (given-up-is L first a reach (limitOf d) i)) (arrived-is pdcp d h i)))))
+    where
+      p : ℕ
+      p = placeI a (a .base + d)
+
+      within : p ≤ length (a .records)
+      within = rw length-map at (front-within (ltb (a .base + d)) (indexes (a .records)))
+
+  -- the arrival of the packet d past base, less than half the circle on
+  pub image-arrive : (d pdcp : ℕ) → d < half L → pdcp < pdcps L → a .closed ≡ false
+      → K.arrive (image L first a) (numberOf L first (a .base + d)) pdcp ≡ imageAfter L first (arriveI (half L) a pdcp (placeI a (a .base + d)) d)
+  image-arrive d pdcp h fits not-closed =
+      not-refused-10 L first a (a .base + d) pdcp fits not-closed
+      ∙ otherwise _ _ (before-base (modulusOf L) first (positive L) (whole L) (a .base) (a .base + d) (omega arith) (omega arith) ∙ le-ltb (a .base + d) (a .base) (omega arith))
+      ∙ ap (λ (x : ℕ). K.arriveAt (image L first a) (numberOf L first (a .base + d)) pdcp (K.placeOf (image L first a) x) x) distance
+      ∙ ap (λ (p : ℕ). K.arriveAt (image L first a) (numberOf L first (a .base + d)) pdcp p d) (place-is L first a reach d)
+      ∙ arrive-at-is pdcp d h
+    where
+      distance : forward (modulusOf L) (numberOf L first (a .base)) (numberOf L first (a .base + d)) ≡ d
+      distance = to-later (modulusOf L) first (positive L) (a .base) (a .base + d) (omega arith) (omega (arith, whole L)) ∙ (let e : a .base + d - a .base ≡ d = omega arith in e)
+
+  expire-below-is : (top : ℕ) → top ≤ half L → K.expireBelow (image L first a) top ≡ imageAfter L first (expireI a top)
+  expire-below-is top h =
+      choice (imageAfter L first) {t = eqb top 0} refl refl
+      (choice (imageAfter L first) (many-runs-are L first a reach top h) refl
+      (λ i. answering (sizeOf (given-up-is L first a reach top i))
+      (image L first a with-base base-after-is L first a reach top top i with-runs runs-after-are L first a reach top h i)))
+
+  pub image-expire : a .closed ≡ false → K.expire (image L first a) ≡ imageAfter L first (expireI a (topI (a .base) (indexes (a .records))))
+  image-expire not-closed =
+      otherwise _ _ not-closed
+      ∙ ap (K.expireBelow (image L first a)) (top-is L first a reach)
+      ∙ expire-below-is (topI (a .base) (indexes (a .records))) (top-near L first a reach)

@@ -1,0 +1,55 @@
+-- The words in which statements speak of packets: their numbers, the packets of entries and of ranges, and lists of them. A packet is an
+-- index that never rolls over: packet 0 is the first one sent, 1 the next.
+-- Assumes nothing.
+use mathlib.Core.Path.{_≡_}
+use mathlib.Core.Bool.{true}
+use mathlib.Core.List.{List, [], _∷_, _++_, map}
+use Prim.Native.Nat.{ℕ, zero, suc, _+_, _%_, _<_}
+use Rattle.circle.specs.Circle.{forward}
+use Rattle.circle.specs.Lengths.{modulusOf}
+use Rattle.frame_layout.specs.Frames.{Range}
+use Rattle.bearer.specs.Ledger as G
+use Rattle.bearer.specs.Rule.{isIn}
+
+-- ---- lists of packets
+
+-- a packet is in a list
+abbrev pub In : ℕ → List ℕ → Type 0
+In i l = isIn i l ≡ true
+
+-- packets in sending order, each once
+abbrev pub Rising : List ℕ → Type 0
+Rising [] = Unit
+Rising (i ∷ []) = Unit
+Rising (i ∷ j ∷ js) = (i < j) × Rising (j ∷ js)
+
+-- a property of every element
+abbrev pub Each : {A : Type 0} → (A → Type 0) → List A → Type 0
+Each P [] = Unit
+Each P (x ∷ xs) = P x × Each P xs
+
+-- ---- their numbers
+
+-- the X2-U number of a packet
+abbrev pub numberOf : ℕ → ℕ → ℕ → ℕ
+numberOf L first i = (first + i) % modulusOf L
+
+-- the packets of entries
+abbrev pub packets : List (G.Entry ℕ) → List ℕ
+packets es = map (λ (e : G.Entry ℕ). e .label) es
+
+-- ---- numbers in ranges
+
+-- the numbers from one on, so many
+abbrev pub numbersFrom : ℕ → ℕ → ℕ → List ℕ
+numbersFrom L n zero = []
+numbersFrom L n (suc c) = n ∷ numbersFrom L ((n + 1) % modulusOf L) c
+
+-- "A range runs forward from start through end"
+abbrev pub inRange : ℕ → Range → List ℕ
+inRange L r = numbersFrom L (r .start) (suc (forward (modulusOf L) (r .start) (r .end)))
+
+-- the numbers in ranges, in order
+abbrev pub inRanges : ℕ → List Range → List ℕ
+inRanges L [] = []
+inRanges L (r ∷ rs) = inRange L r ++ inRanges L rs

@@ -1,0 +1,28 @@
+-- What the keeper's calls answer, by the case of the answer: an answer that is known to be one of its cases means what that case means.
+-- Assumes nothing.
+use mathlib.Core.Path.{_≡_, sym, _∙_, ap}
+use mathlib.Core.List.{List}
+use Prim.Native.Nat.{ℕ}
+use Rattle.bearer.specs.Bearer.{After}
+use Rattle.bearer.specs.Keeper.{Keeper, Reported}
+use Rattle.keeper.specs.View.{openedAs, countedAs, confirmedAs, reportedAs}
+use Rattle.keeper.specs.declared.Opened.{Opened}
+use Rattle.keeper.specs.declared.Counted.{Counted}
+use Rattle.keeper.specs.declared.Confirmed.{Confirmed}
+use Rattle.keeper.specs.declared.Frame.{Frame}
+
+-- an open
+pub opened : (r v : Opened) (k : Keeper) (a : After Keeper Unit) → openedAs r k ≡ a → r ≡ v → openedAs v k ≡ a
+opened r v k a p e = ap (λ (x : Opened). openedAs x k) (sym e) ∙ p
+
+-- an arrival or an expiry
+pub counted : (r v : Counted) (k : Keeper) (a : After Keeper ℕ) → countedAs r k ≡ a → r ≡ v → countedAs v k ≡ a
+counted r v k a p e = ap (λ (x : Counted). countedAs x k) (sym e) ∙ p
+
+-- a confirm
+pub confirmed : (r v : Confirmed) (k : Keeper) (a : After Keeper Unit) → confirmedAs r k ≡ a → r ≡ v → confirmedAs v k ≡ a
+confirmed r v k a p e = ap (λ (x : Confirmed). confirmedAs x k) (sym e) ∙ p
+
+-- a status
+pub reported : (r v : Frame) (k : Keeper) (d : List ℕ) (a : Reported) → reportedAs r k d ≡ a → r ≡ v → reportedAs v k d ≡ a
+reported r v k d a p e = ap (λ (x : Frame). reportedAs x k d) (sym e) ∙ p

@@ -1,0 +1,5 @@
+pub mod Answers
+pub mod Stored
+pub mod Places
+pub mod Statuses
+pub mod Kept

@@ -1,0 +1,10 @@
+pub mod Forms
+pub mod Octets
+pub mod Padding
+pub mod First
+pub mod Frame
+pub mod Read
+pub mod Written
+pub mod Rewritten
+pub mod Trips
+pub mod Within

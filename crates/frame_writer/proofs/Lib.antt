@@ -1,0 +1,5 @@
+pub mod Joined
+pub mod Lengths
+pub mod Placed
+pub mod Ranges
+pub mod Unique

@@ -1,0 +1,102 @@
+-- The machine's judgement of an arrival, from the tests that the engine makes in the same order.
+-- Assumes nothing.
+use mathlib.Core.Path.{_≡_, sym, _∙_, ap}
+use mathlib.Core.Bool.{true, false}
+use mathlib.Core.List.{List}
+use Prim.Native.Nat.{ℕ, suc, _+_, _/_, _≤_, _<_}
+use lib.Dec.{ltb, leb}
+use lib.ListN.{length, length-map}
+use borrow.Author.Tests.{eq-eqb, ne-eqb, lt-ltb, le-ltb, lt-leb, le-leb}
+use Rattle.circle.specs.Circle.{forward}
+use Rattle.circle.specs.Lengths.{pdcps, lengthIn}
+use Rattle.basics.specs.Basics.{if_then_else_}
+use Rattle.frame_layout.specs.Frames.{Range, startsOf}
+use Rattle.bearer.specs.Bearer.{After, refusing, answering, mostRuns, mostRecords}
+use Rattle.bearer.specs.Losses.{fromOn, bearsBefore, placeIn, floorBehind, sizeOf}
+use Rattle.bearer.specs.Keeper.{Keeper, Record, numbersOf, runsAfter, givenUp, limitOf, placeOf, baseArrived, arrived, arriveAt, arrive}
+use Rattle.keeper_loss.proofs.Ends.{front-within}
+use Rattle.keeper_judge.specs.declared.Words.{Words}
+use Rattle.keeper_judge.specs.declared.Losses.{Losses}
+use Rattle.keeper_judge.specs.State.{modulusIn, stateOf}
+use Rattle.keeper_judge.specs.Judgements.{Losing, AcceptsArrival}
+use Rattle.keeper_judge.proofs.Given.{same-outcome}
+
+-- ---- 9, 10, 10, 11
+
+module _ (w : Words) (runs : List Range) (records : List Record) (n p : ℕ) where
+  abbrev state : Keeper
+  state = stateOf w runs records
+
+  pub closed-arrival : (w .closed ≡ 0 → ⊥) → arrive state n p ≡ refusing 9 state
+  closed-arrival h = rw (ne-eqb (w .closed) 0 h)
+
+  module _ (opened : w .closed ≡ 0) where
+    pub bad-number : modulusIn w ≤ n → arrive state n p ≡ refusing 10 state
+    bad-number h = rw (eq-eqb (w .closed) 0 opened, le-ltb n (modulusIn w) h)
+
+    module _ (good : n < modulusIn w) where
+      pub bad-pdcp : pdcps (lengthIn (w .bits)) ≤ p → arrive state n p ≡ refusing 10 state
+      bad-pdcp h = rw (eq-eqb (w .closed) 0 opened, lt-ltb n (modulusIn w) good, le-ltb p (pdcps (lengthIn (w .bits))) h)
+
+      -- by how far it is forward from base
+      module _ (fits : p < pdcps (lengthIn (w .bits))) (d : ℕ) (far : d ≡ forward (modulusIn w) (w .base) n) where
+        pub late : modulusIn w / 2 ≤ d → arrive state n p ≡ refusing 11 state
+        late h =
+            rw (eq-eqb (w .closed) 0 opened, lt-ltb n (modulusIn w) good, lt-ltb p (pdcps (lengthIn (w .bits))) fits, ← far, le-leb (modulusIn w / 2) d h)
+
+        pub on-time : d < modulusIn w / 2 → arrive state n p ≡ arriveAt state n p (placeOf state d) d
+        on-time h =
+            rw (eq-eqb (w .closed) 0 opened, lt-ltb n (modulusIn w) good, lt-ltb p (pdcps (lengthIn (w .bits))) fits, ← far, lt-leb (modulusIn w / 2) d h)
+
+-- ---- 12, 13, 14, 15
+
+-- by the numbers held and the starts listed, and the place of the number d forward from base
+module _ (w : Words) (runs : List Range) (records : List Record) (ns ss : List ℕ) (en : numbersOf records ≡ ns) (es : startsOf runs ≡ ss) (n p d place : ℕ)
+    (place-is : place ≡ placeIn (modulusIn w) (w .base) ns d) where
+  -- how the machine judges it
+  abbrev judged : After Keeper ℕ
+  judged = arriveAt (stateOf w runs records) n p (placeOf (stateOf w runs records) d) d
+
+  at-place : judged ≡ arriveAt (stateOf w runs records) n p place d
+  at-place = ap (λ (i : ℕ). arriveAt (stateOf w runs records) n p i d) (ap (λ (ns : List ℕ). placeIn (modulusIn w) (w .base) ns d) en ∙ sym place-is)
+
+  pub again : bearsBefore ns n place ≡ true → judged ≡ refusing 12 (stateOf w runs records)
+  again h = at-place ∙ rw (en, h)
+
+  module _ (new : bearsBefore ns n place ≡ false) where
+    pub span : modulusIn w / 2 ≤ floorBehind (modulusIn w) (w .base) ss ns + d → judged ≡ refusing 13 (stateOf w runs records)
+    span h = at-place ∙ rw (en, es, new, le-leb (modulusIn w / 2) (floorBehind (modulusIn w) (w .base) ss ns + d) h)
+
+    module _ (near : floorBehind (modulusIn w) (w .base) ss ns + d < modulusIn w / 2) where
+      in-span : judged
+          ≡ (if ltb mostRuns (length (runsAfter (stateOf w runs records) (limitOf d))) then refusing 14 (stateOf w runs records) else
+          if leb mostRecords (length records) then refusing 15 (stateOf w runs records) else
+          answering (sizeOf (givenUp (stateOf w runs records) (limitOf d))) (arrived (stateOf w runs records) n p place d))
+      in-span = at-place ∙ rw (en, es, new, lt-leb (modulusIn w / 2) (floorBehind (modulusIn w) (w .base) ss ns + d) near)
+
+      -- what it gives up
+      module _ (lost : Losses) (losing : Losing lost (modulusIn w) (w .base) ns runs) (limit : lost .limit ≡ limitOf d) where
+        runs-count : length (runsAfter (stateOf w runs records) (limitOf d)) ≡ lost .runs
+        runs-count = rw (en, ← limit) (sym (losing .runs-are))
+
+        pub many-runs : mostRuns < lost .runs → judged ≡ refusing 14 (stateOf w runs records)
+        many-runs h = in-span ∙ rw (runs-count, lt-ltb mostRuns (lost .runs) h)
+
+        held-count : length records ≡ length ns
+        held-count = sym (length-map records (λ (r : Record). r .number)) ∙ ap length en
+
+        module _ (few : lost .runs ≤ mostRuns) where
+          pub many-records : mostRecords ≤ length ns → judged ≡ refusing 15 (stateOf w runs records)
+          many-records h = in-span ∙ rw (runs-count, le-ltb mostRuns (lost .runs) few, held-count, le-leb mostRecords (length ns) h)
+
+          pub accepted : length ns < mostRecords → (base : ℕ) → base ≡ baseArrived (modulusIn w) (w .base) ns place d
+              → AcceptsArrival place (record { base = base; lost = lost }) (stateOf w runs records) n p judged
+          accepted h base e = record {
+            within = rw (place-is, held-count) (front-within (fromOn (modulusIn w) (w .base) (suc d)) ns);
+            room = rw held-count h;
+            loses = record { losing = rw en losing; few = few };
+            outcome =
+                in-span
+                ∙ rw (runs-count, le-ltb mostRuns (lost .runs) few, held-count, lt-leb mostRecords (length ns) h)
+                (same-outcome (stateOf w runs records) (rw (en, ← limit) (sym (losing .numbers-are))) (rw en (sym e)) (rw limit));
+          }

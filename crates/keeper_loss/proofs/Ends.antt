@@ -1,0 +1,101 @@
+-- What stands at the ends of a list of numbers: the longest end with a property found from the back, the last number, and
+-- where a number first stands found from the front.
+-- Assumes nothing.
+use mathlib.Core.Path.{_≡_, refl, _∙_, ap}
+use mathlib.Core.Bool.{Bool, true, false}
+use mathlib.Core.List.{List, [], _∷_}
+use Prim.Native.Nat.{ℕ, zero, suc, _+_, _-_, _≤_, _<_}
+use native.Mathlib.Omega.{arith}
+use native.Mathlib.Numerals.{add-one}
+use lib.ListN.{length, drop, getD}
+use lib.Seq.{drop-cons}
+use borrow.Author.Tests.{eq-eqb, ne-eqb}
+use Rattle.circle.specs.Circle.{forward, forward-below}
+use Rattle.basics.specs.Basics.{if_then_else_, all}
+use Rattle.basics.proofs.Choices.{and-no}
+use Rattle.bearer.specs.Losses.{beforeBase, behind, frontOf, firstBehind, topOf}
+use Rattle.bearer.specs.Keeper.{indexOf}
+
+-- ---- the longest end all of which has a property
+
+module _ (p : ℕ → Bool) where
+  pub front-none : (xs : List ℕ) → all p xs ≡ true → frontOf p xs ≡ 0
+  front-none [] h = refl
+  front-none (x ∷ xs) h = rw h
+
+  one-not : (xs : List ℕ) (i : ℕ) → i < length xs → p (getD xs i 0) ≡ false → all p xs ≡ false
+  one-not [] i l h = absurd (omega arith)
+  one-not (x ∷ xs) zero l h = rw h
+  one-not (x ∷ xs) (suc i) l h = rw (one-not xs i (omega arith) h) (and-no (p x))
+
+  -- behind the last element that hasn't it
+  pub front-at : (xs : List ℕ) (i : ℕ) → i < length xs → p (getD xs i 0) ≡ false → all p (drop (suc i) xs) ≡ true → frontOf p xs ≡ suc i
+  front-at [] i l h a = absurd (omega arith)
+  front-at (x ∷ xs) zero l h a = rw h (ap suc (front-none xs a))
+  front-at (x ∷ xs) (suc i) l h a = rw (one-not (x ∷ xs) (suc i) l h) (ap suc (front-at xs i (omega arith) h a))
+
+  pub front-within : (xs : List ℕ) → frontOf p xs ≤ length xs
+  front-within [] = omega arith
+  front-within (x ∷ xs) = by-test (all p (x ∷ xs)) (front-within xs)
+    where
+      by-test : (t : Bool) → frontOf p xs ≤ length xs → (if t then 0 else suc (frontOf p xs)) ≤ suc (length xs)
+      by-test true h = omega arith
+      by-test false h = omega arith
+
+  -- one element more that has it
+  pub end-more : (xs : List ℕ) (i : ℕ) → 0 < i → i ≤ length xs → p (getD xs (i - 1) 0) ≡ true → all p (drop i xs) ≡ true → all p (drop (i - 1) xs) ≡ true
+  end-more xs i o l h a =
+      let e : suc (i - 1) ≡ i = omega arith in
+      let d : drop (i - 1) xs ≡ getD xs (i - 1) 0 ∷ drop i xs = drop-cons xs (i - 1) 0 (omega arith) ∙ rw e in
+      rw (d, h) a
+
+-- ---- the first number and the last
+
+module _ (M base : ℕ) where
+  pub first-none : (ns : List ℕ) → length ns ≡ 0 → firstBehind M base ns ≡ 0
+  first-none [] e = refl
+  first-none (n ∷ ns) e = absurd (omega arith)
+
+  pub first-here : (ns : List ℕ) → 0 < length ns → firstBehind M base ns ≡ behind M base (getD ns 0 0)
+  first-here [] h = absurd (omega arith)
+  first-here (n ∷ ns) h = refl
+
+  pub top-none : (ns : List ℕ) → length ns ≡ 0 → topOf M base ns ≡ 0
+  top-none [] e = refl
+  top-none (n ∷ ns) e = absurd (omega arith)
+
+  pub top-last : (ns : List ℕ) (i : ℕ) → i + 1 ≡ length ns
+      → topOf M base ns ≡ (if beforeBase M base (getD ns i 0) then 0 else forward M base (getD ns i 0))
+  top-last [] i e = absurd (omega arith)
+  top-last (n ∷ []) i e = let z : i ≡ 0 = omega arith in rw z
+  top-last (n ∷ m ∷ ns) zero e = absurd (omega arith)
+  top-last (n ∷ m ∷ ns) (suc i) e = top-last (m ∷ ns) i (omega arith)
+
+-- ---- where a number first stands
+
+module _ (n : ℕ) (ns : List ℕ) (i : ℕ) (l : i < length ns) where
+  pub index-here : getD ns i 0 ≡ n → indexOf n (drop i ns) ≡ 0
+  index-here h = rw (drop-cons ns i 0 l, eq-eqb (getD ns i 0) n h)
+
+  pub index-later : (getD ns i 0 ≡ n → ⊥) → indexOf n (drop i ns) ≡ suc (indexOf n (drop (i + 1) ns))
+  index-later h = rw (drop-cons ns i 0 l, add-one i, ne-eqb (getD ns i 0) n h)
+
+-- ---- how far the ends can be
+
+module _ (M base : ℕ) (pos : 0 < M) where
+  pub first-below : (ns : List ℕ) → firstBehind M base ns < M
+  first-below [] = pos
+  first-below (n ∷ ns) = by-test (beforeBase M base n)
+    where
+      by-test : (t : Bool) → (if t then forward M n base else 0) < M
+      by-test true = forward-below M pos n base
+      by-test false = pos
+
+  pub top-below : (ns : List ℕ) → topOf M base ns < M
+  top-below [] = pos
+  top-below (n ∷ []) = by-test (beforeBase M base n)
+    where
+      by-test : (t : Bool) → (if t then 0 else forward M base n) < M
+      by-test true = pos
+      by-test false = forward-below M pos base n
+  top-below (n ∷ m ∷ ns) = top-below (m ∷ ns)

@@ -1,0 +1,272 @@
+// Where numbers lie as seen from base, and what is given up below a distance from it: passes over a lent list of numbers.
+// Numbers are of the short form (modulo 2^16) or the long one (modulo 2^24); distances are forward from base.
+ghost use mathlib.Core.Path.{_≡_};
+ghost use mathlib.Core.Bool.{Bool};
+ghost use Prim.Native.Nat.{_+_, _-_, _/_, _%_, _^_, _≤_, _<_, max};
+ghost use lib.ListN.{length, set};
+ghost use lib.Seq.{sets};
+ghost use Rattle.circle.specs.Circle.{forward};
+ghost use Rattle.circle.specs.Lengths.{modulus as «modulusOf»};
+ghost use Rattle.frame_layout.specs.Frames.{startsOf, endsOf};
+ghost use Rattle.bearer.specs.Losses.{beforeBase, behind as «behindOf», fromOn, frontOf, firstBehind, topOf, offsets, outside as «outsideOf», gap, gaps as «gapsOf», lowest as «lowestOf», runsOf};
+ghost use Rattle.bearer.specs.Keeper.{indexOf};
+ghost use Rattle.keeper_loss.specs.Tally.{told, tallied, raisedBy, gapEnd, pastOf};
+
+// What is given up: how many gaps and numbers, and how far the first gap is from base (0 for none).
+pub struct GivenUp {
+    pub gaps: usize,
+    pub numbers: u32,
+    pub first: u32,
+}
+
+// ---- where a number lies
+
+// Whether a number lies before base: half the circle forward from it, or more.
+pub fn is_before(base: u32, number: u32, long: bool) -> bool
+    ensures { λ r. ⌜ r ≡ beforeBase («modulusOf» long) base number ⌝ }
+{
+    circle::half(long) <= circle::distance(base, number, long)
+}
+
+// How far a number that lies before base is behind it; 0 for any other.
+fn behind(base: u32, number: u32, long: bool) -> u32
+    ensures { λ r. ⌜ r ≡ «behindOf» («modulusOf» long) base number ⌝ }
+{
+    if is_before(base, number, long) {
+        return circle::distance(number, base, long);
+    }
+    0
+}
+
+// Whether a number lies `least` or more forward from base, and not before it.
+fn from_on(base: u32, number: u32, long: bool, least: u32) -> bool
+    ensures { λ r. ⌜ r ≡ fromOn («modulusOf» long) base least number ⌝ }
+{
+    if circle::distance(base, number, long) < least {
+        return false;
+    }
+    !is_before(base, number, long)
+}
+
+// ---- the ends of a list
+
+// How many numbers stand in front of the last ones that all lie `least` or more forward from base. From the back, so that
+// what stands in front of them is not looked at.
+pub fn front(numbers: &[u32], base: u32, long: bool, least: u32) -> usize
+    ensures { λ r. ⌜ r ≡ frontOf (fromOn («modulusOf» long) base least) (now (numbers .entry)) ⌝ }
+{
+    let mut i = numbers.len();
+    while 0 < i {
+        if !from_on(base, numbers[i - 1], long, least) {
+            return i;
+        }
+        i -= 1;
+    }
+    0
+}
+
+// How far the first number is behind base; 0 for none.
+pub fn first_behind(numbers: &[u32], base: u32, long: bool) -> u32
+    ensures { λ r. ⌜ r ≡ firstBehind («modulusOf» long) base (now (numbers .entry)) ⌝ }
+{
+    if numbers.len() == 0 {
+        return 0;
+    }
+    behind(base, numbers[0], long)
+}
+
+// How far the last number is forward from base; 0 for none, or for one before base.
+pub fn top_of(numbers: &[u32], base: u32, long: bool) -> u32
+    ensures { λ r. ⌜ r ≡ topOf («modulusOf» long) base (now (numbers .entry)) ⌝ }
+{
+    if numbers.len() == 0 {
+        return 0;
+    }
+    let last = numbers[numbers.len() - 1];
+    if is_before(base, last, long) {
+        return 0;
+    }
+    circle::distance(base, last, long)
+}
+
+// Where a number first stands; the length for nowhere.
+pub fn index_of(numbers: &[u32], number: u32) -> usize
+    ensures { λ r. ⌜ r ≡ indexOf number (now (numbers .entry)) ⌝ }
+{
+    let mut i = 0;
+    while i < numbers.len() {
+        if numbers[i] == number {
+            return i;
+        }
+        i += 1;
+    }
+    i
+}
+
+// ---- what is open below a distance
+
+// The lowest distance from `from` on at which none of the numbers lies.
+pub fn lowest(numbers: &[u32], base: u32, long: bool, from: u32) -> u32
+    ensures { λ r. ⌜ r ≡ «lowestOf» from (offsets («modulusOf» long) base (now (numbers .entry))) ⌝ }
+{
+    let mut low = from;
+    let mut i = 0;
+    while i < numbers.len() {
+        low = raised(low, circle::distance(base, numbers[i], long));
+        i += 1;
+    }
+    low
+}
+
+// The lowest distance, with a number at another one.
+fn raised(low: u32, offset: u32) -> u32
+    requires { ⌜ offset < 2 ^ 24 ⌝ }
+    ensures { λ r. ⌜ r ≡ raisedBy low offset ⌝ }
+{
+    if offset == low { low + 1 } else { low }
+}
+
+// What is given up below the distance `limit`.
+pub fn given_up(numbers: &[u32], base: u32, long: bool, limit: u32) -> GivenUp
+    ensures { λ r. ⌜ r ≡ told («gapsOf» 0 limit (offsets («modulusOf» long) base (now (numbers .entry)))) ⌝ }
+{
+    let mut sum = GivenUp {
+        gaps: 0,
+        numbers: 0,
+        first: 0,
+    };
+    let mut from = 0;
+    let mut i = 0;
+    while i < numbers.len() {
+        let offset = circle::distance(base, numbers[i], long);
+        sum = tally(sum, from, gap_end(from, limit, offset));
+        from = past(from, limit, offset);
+        i += 1;
+    }
+    tally(sum, from, limit)
+}
+
+// Writes the run of each gap below the distance `limit` to starts and ends, from slot `at` on. Slots past an end are left.
+pub fn list_gaps(
+    numbers: &[u32],
+    base: u32,
+    long: bool,
+    limit: u32,
+    starts: &mut [u32],
+    ends: &mut [u32],
+    at: usize,
+)
+    ensures { λ _. ⌜ (now (starts .exit) ≡ sets (now (starts .entry)) at (startsOf (runsOf («modulusOf» long) base («gapsOf» 0 limit (offsets («modulusOf» long) base (now (numbers .entry)))))))
+        × (now (ends .exit) ≡ sets (now (ends .entry)) at (endsOf (runsOf («modulusOf» long) base («gapsOf» 0 limit (offsets («modulusOf» long) base (now (numbers .entry))))))) ⌝ }
+{
+    // No slot is left: nothing to write, and no place to count on from.
+    if longer(starts.len(), ends.len()) <= at {
+        return;
+    }
+    let mut at = at;
+    let mut from = 0;
+    let mut i = 0;
+    while i < numbers.len() {
+        let offset = circle::distance(base, numbers[i], long);
+        at = put_run(
+            base,
+            long,
+            from,
+            gap_end(from, limit, offset),
+            starts,
+            ends,
+            at,
+        );
+        from = past(from, limit, offset);
+        i += 1;
+    }
+    put_run(base, long, from, limit, starts, ends, at);
+}
+
+// Whether a distance is not from `from` up to the limit.
+fn outside(from: u32, limit: u32, offset: u32) -> bool
+    ensures { λ r. ⌜ r ≡ «outsideOf» from limit offset ⌝ }
+{
+    if offset < from {
+        return true;
+    }
+    limit <= offset
+}
+
+// Where the gap from `from` on ends, that a number at a distance leaves below the limit. One that is outside leaves none: the
+// gap ends where it starts.
+fn gap_end(from: u32, limit: u32, offset: u32) -> u32
+    ensures { λ r. ⌜ r ≡ gapEnd from limit offset ⌝ }
+{
+    if outside(from, limit, offset) {
+        from
+    } else {
+        offset
+    }
+}
+
+// Where the next gap starts, behind a number at a distance.
+fn past(from: u32, limit: u32, offset: u32) -> u32
+    ensures { λ r. ⌜ r ≡ pastOf from limit offset ⌝ }
+{
+    if outside(from, limit, offset) {
+        from
+    } else {
+        offset + 1
+    }
+}
+
+// What is given up, with one gap more, if it holds a number.
+fn tally(sum: GivenUp, from: u32, to: u32) -> GivenUp
+    requires { ⌜ (sum .gaps + 1 < 2 ^ 64) × (sum .numbers + (to - from) < 2 ^ 32) ⌝ }
+    ensures { λ r. ⌜ r ≡ tallied sum (gap from to) ⌝ }
+{
+    if to <= from {
+        return sum;
+    }
+    let gaps = sum.gaps;
+    GivenUp {
+        gaps: gaps + 1,
+        numbers: sum.numbers + (to - from),
+        first: if gaps == 0 { from } else { sum.first },
+    }
+}
+
+// Writes the run of a gap, if it holds a number, and answers the slot behind it.
+fn put_run(
+    base: u32,
+    long: bool,
+    from: u32,
+    to: u32,
+    starts: &mut [u32],
+    ends: &mut [u32],
+    at: usize,
+) -> usize
+    requires { ⌜ at + 1 < 2 ^ 64 ⌝ }
+    ensures { λ r. ⌜ (now (starts .exit) ≡ sets (now (starts .entry)) at (startsOf (runsOf («modulusOf» long) base (gap from to))))
+        × (now (ends .exit) ≡ sets (now (ends .entry)) at (endsOf (runsOf («modulusOf» long) base (gap from to))))
+        × (r ≡ at + length (gap from to)) ⌝ }
+{
+    if to <= from {
+        return at;
+    }
+    store(starts, at, circle::onward(base, from, long));
+    store(ends, at, circle::onward(base, to - 1, long));
+    at + 1
+}
+
+// Stores a number in a slot, if there is one.
+fn store(a: &mut [u32], at: usize, v: u32)
+    ensures { λ _. ⌜ now (a .exit) ≡ set (now (a .entry)) at v ⌝ }
+{
+    if at < a.len() {
+        a[at] = v;
+    }
+}
+
+// The longer of two lengths.
+fn longer(a: usize, b: usize) -> usize
+    ensures { λ r. ⌜ r ≡ max a b ⌝ }
+{
+    if a < b { b } else { a }
+}

@@ -1,0 +1,4 @@
+pub mod Entries
+pub mod Walks
+pub mod Marks
+pub mod Passes

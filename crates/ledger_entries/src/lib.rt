@@ -1,0 +1,232 @@
+// Packets that went out, in an array of entries, and the passes that the master's calls make over it. Entries stand in sending order
+// from slot 0 on, as many as a count says; a count past the end is a full array. specs/View.antt says how they are read.
+ghost use mathlib.Core.Path.{_≡_};
+ghost use mathlib.Core.Bool.{not};
+ghost use mathlib.Core.List.{_++_};
+ghost use Prim.Native.Nat.{ℕ, _+_, _≤_, min};
+ghost use lib.Dec.{eqb};
+ghost use lib.ListN.{take, drop};
+ghost use Rattle.basics.specs.Basics.{_and_, _or_};
+ghost use Rattle.circle.specs.Lengths.{isLong};
+ghost use Rattle.bearer.specs.Bearer.{mostEntries};
+ghost use Rattle.bearer.specs.Ledger.{newEntry, waits as «waitsOf», asLost, markLost, waitsFor, takeAt};
+ghost use Rattle.ledger_entries.specs.View.{entryIn, heldIn};
+ghost use Rattle.ledger_entries.specs.Steps.{walked, markedAs, keptOf, freeWhile};
+use frame_reader::Cursor;
+use frame_reader::Step;
+
+// How many entries are held at most (refusal 36).
+pub const MOST_ENTRIES: usize = 512;
+
+// What became of a packet that is still held.
+pub enum Fate {
+    Waiting,
+    Lost,
+}
+
+// A packet that went out.
+pub struct Entry {
+    pub number: u32,
+    pub pdcp: u32,
+    pub fate: Fate,
+}
+
+// Entries with a status's ranges applied, how many became lost, and whether each number of the ranges was found.
+pub struct Marked {
+    pub entries: [Entry; MOST_ENTRIES],
+    pub lost: u32,
+    pub found: bool,
+}
+
+// Entries without those that left, and how many they are.
+pub struct Kept {
+    pub entries: [Entry; MOST_ENTRIES],
+    pub count: usize,
+}
+
+// ---- an entry
+
+// The entry of a send: it waits.
+pub fn new_entry(number: u32, pdcp: u32) -> Entry
+    ensures { λ r. ⌜ entryIn r ≡ newEntry number pdcp tt ⌝ }
+{
+    Entry {
+        number: number,
+        pdcp: pdcp,
+        fate: Fate::Waiting,
+    }
+}
+
+// An entry, lost.
+fn as_lost(e: Entry) -> Entry
+    ensures { λ r. ⌜ entryIn r ≡ asLost (entryIn e) ⌝ }
+{
+    Entry {
+        fate: Fate::Lost,
+        ..e
+    }
+}
+
+// Whether an entry waits.
+fn waits(e: Entry) -> bool
+    ensures { λ r. ⌜ r ≡ «waitsOf» (entryIn e) ⌝ }
+{
+    let fate = e.fate;
+    match fate {
+        Fate::Waiting => true,
+        Fate::Lost => false,
+    }
+}
+
+// Whether an entry waits, and a number of its own is the one that is wanted.
+fn matches(e: Entry, own: u32, wanted: u32) -> bool
+    ensures { λ r. ⌜ r ≡ («waitsOf» (entryIn e) and eqb own wanted) ⌝ }
+{
+    if waits(e) { own == wanted } else { false }
+}
+
+// Whether an entry may be taken: a lost one, and any once the end is closed.
+fn may_go(e: Entry, closed: bool) -> bool
+    ensures { λ r. ⌜ r ≡ (closed or not («waitsOf» (entryIn e))) ⌝ }
+{
+    if closed { true } else { !waits(e) }
+}
+
+// Whether an entry is freed: a waiting one, as long as freeing goes on.
+fn leaves(e: Entry, going: bool) -> bool
+    ensures { λ r. ⌜ r ≡ (going and «waitsOf» (entryIn e)) ⌝ }
+{
+    if going { waits(e) } else { false }
+}
+
+// ---- accepting a status
+
+// The numbers of the ranges, one after another, become lost where they are found among the waiting entries. A range ends
+// where its distance is used up. One place goes through the entries for all the ranges, so no range is walked further than
+// the entries reach.
+pub fn mark(es: [Entry; MOST_ENTRIES], count: usize, frame: &[u8], first: Cursor) -> Marked
+    ensures { λ r. ⌜ ((L : ℕ) → isLong L ≡ first .long → markedAs r count ≡ markLost L (heldIn es count) (walked (now (frame .entry)) first)) ⌝ }
+{
+    let n = basics::least(count, MOST_ENTRIES);
+    let mut m = Marked {
+        entries: es,
+        lost: 0,
+        found: false,
+    };
+    let mut at = first;
+    let mut i: usize = 0;
+    'ranges: loop {
+        let Step::Range { start, end, rest } = frame_view::next_range(frame, at) else {
+            return Marked { found: true, ..m };
+        };
+        at = rest;
+        let mut number = start;
+        let mut further = circle::distance(start, end, first.long);
+        loop {
+            if n <= i {
+                break 'ranges;
+            }
+            let e = m.entries[i];
+            if matches(e, e.number, number) {
+                m.entries[i] = as_lost(e);
+                m.lost += 1;
+                i += 1;
+                if further == 0 {
+                    break;
+                }
+                further -= 1;
+                number = circle::onward(number, 1, first.long);
+            } else {
+                i += 1;
+            }
+        }
+    }
+    m
+}
+
+// Whether a status may bear this highest: the one last accepted again, or a waiting entry's.
+pub fn may_be_highest(es: [Entry; MOST_ENTRIES], count: usize, last: u32, highest: u32) -> bool
+    ensures { λ r. ⌜ r ≡ (eqb highest last or waitsFor highest (heldIn es count)) ⌝ }
+{
+    if highest == last {
+        return true;
+    }
+    let n = basics::least(count, MOST_ENTRIES);
+    let mut i: usize = 0;
+    while i < n {
+        let e = es[i];
+        if matches(e, e.pdcp, highest) {
+            return true;
+        }
+        i += 1;
+    }
+    false
+}
+
+// Frees every waiting entry from the oldest through the one with this highest; none where it is the one last accepted.
+// What is kept moves down in place.
+pub fn free_through(es: [Entry; MOST_ENTRIES], count: usize, last: u32, highest: u32) -> Kept
+    ensures { λ r. ⌜ (keptOf r count ≡ freeWhile (not (eqb highest last)) highest (heldIn es count)) × (r .count ≤ min count mostEntries) ⌝ }
+{
+    let n = basics::least(count, MOST_ENTRIES);
+    let mut ms = es;
+    let mut going = highest != last;
+    let mut i: usize = 0;
+    let mut kept: usize = 0;
+    while i < n {
+        let e = ms[i];
+        if leaves(e, going) {
+            going = e.pdcp != highest;
+        } else {
+            ms[kept] = e;
+            kept += 1;
+        }
+        i += 1;
+    }
+    Kept {
+        entries: ms,
+        count: kept,
+    }
+}
+
+// ---- take
+
+// Where the oldest entry that may be taken stands; for none, how many entries there are.
+pub fn oldest(es: [Entry; MOST_ENTRIES], count: usize, closed: bool) -> usize
+    ensures { λ r. ⌜ r ≡ takeAt closed (heldIn es count) ⌝ }
+{
+    let n = basics::least(count, MOST_ENTRIES);
+    let mut at: usize = 0;
+    while at < n {
+        let e = es[at];
+        if may_go(e, closed) {
+            return at;
+        }
+        at += 1;
+    }
+    n
+}
+
+// The entries without the one at a place, if one stands there: those behind it move down by one.
+pub fn without(es: [Entry; MOST_ENTRIES], count: usize, at: usize) -> Kept
+    ensures { λ r. ⌜ heldIn (r .entries) (r .count) ≡ take at (heldIn es count) ++ drop (at + 1) (heldIn es count) ⌝ }
+{
+    let n = basics::least(count, MOST_ENTRIES);
+    if n <= at {
+        return Kept {
+            entries: es,
+            count: n,
+        };
+    }
+    let mut ms = es;
+    let mut i = at + 1;
+    while i < n {
+        let e = ms[i];
+        ms[i - 1] = e;
+        i += 1;
+    }
+    Kept {
+        entries: ms,
+        count: n - 1,
+    }
+}

@@ -1,0 +1,70 @@
+-- What the rig's loops add up to, over the master's machine (the crate bearer, Ledger.antt): calls one after another, each on
+-- the ledger that the one before left.
+-- Assumes nothing.
+use mathlib.Core.List.{List}
+use Prim.Native.Nat.{ℕ, zero, suc, _+_, _-_, _%_, _^_, min}
+use lib.Dec.{eqb}
+use Rattle.basics.specs.Basics.{if_then_else_, Outcome, done, refused}
+use Rattle.bearer.specs.Bearer.{After, mostEntries}
+use Rattle.bearer.specs.Ledger.{Ledger, Accepted, openLedger, send, accept}
+use Rattle.ledger.specs.View.{opens}
+
+-- ---- turns
+
+-- what a loop calls on a ledger in a turn of this number
+abbrev pub Turn : Type 0 → Type 0
+Turn A = ℕ → Ledger Unit → After (Ledger Unit) A
+
+-- what an answer is worth: a refusal n is 2^32 - n
+abbrev pub worth : {A : Type 0} → (A → ℕ) → Outcome A → ℕ
+worth value (done a) = value a
+worth value (refused n) = 2 ^ 32 - n
+
+-- the ledger that n turns from turn i on leave
+abbrev pub left : {A : Type 0} → Turn A → Ledger Unit → ℕ → ℕ → Ledger Unit
+left turn l i zero = l
+left turn l i (suc n) = left turn (turn i l .state) (i + 1) n
+
+-- what the answers of n turns from turn i on are worth together
+abbrev pub total : {A : Type 0} → (A → ℕ) → Turn A → Ledger Unit → ℕ → ℕ → ℕ
+total value turn l i zero = 0
+total value turn l i (suc n) = worth value (turn i l .answer) + total value turn (turn i l .state) (i + 1) n
+
+-- ---- what is timed
+
+-- a ledger opened at number 0 and PDCP number 0
+abbrev pub opened : ℕ → Ledger Unit
+opened L = opens (openLedger L 0 0) .state
+
+-- turn i sends PDCP number i
+abbrev pub sendNext : Turn ℕ
+sendNext i l = send l i tt
+
+-- a ledger with so many packets sent, 512 at most
+abbrev pub filled : ℕ → ℕ → Ledger Unit
+filled L entries = left sendNext (opened L) 0 (min entries mostEntries)
+
+-- turn i sends PDCP number i modulo 512, and number 0 to a ledger opened afresh
+abbrev pub sendRound : ℕ → Turn ℕ
+sendRound L i l = sendNext (i % mostEntries) (if eqb (i % mostEntries) 0 then opened L else l)
+
+-- a number given out is worth itself
+abbrev pub number : ℕ → ℕ
+number n = n
+
+-- so many packets sent, each to a ledger that has room
+abbrev pub sends : ℕ → ℕ → ℕ
+sends L turns = total number (sendRound L) (opened L) 0 turns % 2 ^ 32
+
+-- each turn accepts the same octets
+abbrev pub acceptAgain : List ℕ → Turn Accepted
+acceptAgain octets i l = accept l octets
+
+-- counts are worth those freed and those lost
+abbrev pub counts : Accepted → ℕ
+counts a = a .freed + a .lost
+
+-- the same octets accepted so many times by a filled ledger, with its next number at the end
+abbrev pub accepts : ℕ → ℕ → ℕ → List ℕ → ℕ
+accepts L entries turns octets =
+    (total counts (acceptAgain octets) (filled L entries) 0 turns + left (acceptAgain octets) (filled L entries) 0 turns .next) % 2 ^ 32

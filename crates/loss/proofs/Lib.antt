@@ -1,4 +1,0 @@
-
-pub mod Forms
-pub mod Ends
-pub mod Gaps

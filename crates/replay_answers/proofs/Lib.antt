@@ -1,0 +1,4 @@
+pub mod Putting
+pub mod Joining
+pub mod Hexadecimal
+pub mod Shown

@@ -1,0 +1,25 @@
+-- `put_taken`: both numbers. Assumes nothing.
+use borrow.Author.Needs.{needs}
+use Rattle.replay_answers.proofs.Putting.{puts-then}
+use Rattle.replay_answers.proofs.put_taken.Statement.{statement}
+use Rattle.replay_answers.proofs.put_taken.Tie as tie
+
+slice-aggregate-put-named : tie.Need-slice-aggregate-put-named
+slice-aggregate-put-named c = search needs
+
+put-named-requires : tie.Need-put-named-requires
+put-named-requires c κs = search needs
+
+put-behind-requires : tie.Need-put-behind-requires
+put-behind-requires c κs = search needs
+
+same-length : tie.Need-same-length
+same-length c = search needs
+
+returns : tie.Need-returns
+returns c = puts-then (c .before .before .before .before .before .before .put-named .ensures) (c .before .before .put-behind .ensures)
+
+pub put-taken-spec : {M : Type 1} → statement M
+put-taken-spec =
+    tie.close
+    (tie.spec slice-aggregate-put-named put-named-requires put-behind-requires same-length returns)

@@ -1,4 +1,0 @@
-pub mod Steps
-pub mod Opening
-pub mod Reporting
-pub mod Arms

@@ -1,2 +1,0 @@
-pub mod Playing
-pub mod Plays

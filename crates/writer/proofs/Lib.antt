@@ -1,6 +1,0 @@
-pub mod Joined
-pub mod Laying
-pub mod Lengths
-pub mod Placed
-pub mod Ranges
-pub mod Unique

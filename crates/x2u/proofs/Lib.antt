@@ -1,4 +1,0 @@
-pub mod Answers
-pub mod Stored
-pub mod Places
-pub mod Statuses
