@@ -6,8 +6,8 @@ use Prim.Native.Nat.{ℕ, _<_, _^_, min}
 use native.Mathlib.Omega.{arith}
 use lib.IntN.{pos}
 use lib.ListN.{length}
-use Rattle.frame_layout.specs.Frames.{Written}
-use Rattle.frame_layout.proofs.Within.{Within, answered-within}
+use Rattle.frame_layout.specs.Frames.{Written, Within}
+use Rattle.frame_layout.proofs.Within.{answered-within}
 use Rattle.frame_writer.specs.declared.Wrote.{Wrote}
 use Rattle.frame_writer.specs.declared.Wrote.the-variants.{Octets}
 use Rattle.frame_writer.specs.Answers.{left}

@@ -8,9 +8,9 @@ use Prim.Native.Nat.{ℕ, _≤_}
 use borrow.Author.Tests.{ltb-false}
 use lib.Dec.{ltb}
 use lib.ListN.{length, drop}
-use Rattle.basics.specs.Basics.{if_then_else_, Outcome, done, refused, isDone, all}
+use Rattle.basics.specs.Basics.{if_then_else_, Outcome, done, isDone, all}
 use Rattle.circle.specs.Lengths.{modulus}
-use Rattle.frame_layout.specs.Frames.{Status, Written, unwritten, place, dataOctets, statusOctets, mostHighest, mostRanges, inForm, writeData, writeStatus}
+use Rattle.frame_layout.specs.Frames.{Status, Written, unwritten, Within, place, dataOctets, statusOctets, mostHighest, mostRanges, inForm, writeData, writeStatus}
 
 -- what a writer of a frame leaves of a buffer
 pub data Leaves (frame d : List ℕ) : Written → Type 0 where
@@ -54,11 +54,6 @@ pub write-data-keeps : (long : Bool) (n : ℕ) (d : List ℕ) → isDone (writeD
 write-data-keeps long n d = refused-keeps (data-leaves long n d)
 
 -- ---- a length that is answered lies within the buffer
-
--- a length that was answered is within the buffer
-abbrev pub Within : List ℕ → Outcome ℕ → Type 0
-Within d (done n) = n ≤ length d
-Within d (refused n) = Unit
 
 leaves-within : {frame d : List ℕ} {w : Written} → Leaves frame d w → Within d (w .answer)
 leaves-within (refuses n) = tt

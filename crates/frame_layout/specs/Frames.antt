@@ -5,7 +5,7 @@
 -- Assumes nothing.
 use mathlib.Core.Bool.{Bool, true, false, not}
 use mathlib.Core.List.{List, [], _∷_, _++_, map}
-use Prim.Native.Nat.{ℕ, zero, suc, _+_, _-_, _*_, _/_, _%_}
+use Prim.Native.Nat.{ℕ, zero, suc, _+_, _-_, _*_, _/_, _%_, _≤_}
 use lib.Dec.{ltb, eqb}
 use lib.ListN.{length, getD, drop, replicate}
 use Rattle.basics.specs.Basics.{if_then_else_, _and_, _or_, bit, Outcome, done, refused, all, some-in}
@@ -208,6 +208,11 @@ pub record Written : Type 0 where
 -- a refusal leaves the buffer as it was
 abbrev pub unwritten : ℕ → List ℕ → Written
 unwritten n d = record { answer = refused n; buffer = d }
+
+-- a length that is answered lies within a buffer
+abbrev pub Within : List ℕ → Outcome ℕ → Type 0
+Within d (done n) = n ≤ length d
+Within d (refused n) = Unit
 
 -- a frame at the front of a buffer, whose other octets stay; 20 for a buffer shorter than the frame
 abbrev pub place : List ℕ → List ℕ → Written

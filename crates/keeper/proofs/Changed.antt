@@ -5,7 +5,7 @@ use mathlib.Core.Bool.{Bool}
 use mathlib.Core.List.{List}
 use Prim.Native.Nat.{ℕ, _≤_, _<_, min}
 use native.Mathlib.Omega.{arith}
-use lib.ListN.{length, getD, set, take, drop, length-take}
+use lib.ListN.{set, take, drop, length-take}
 use Rattle.basics.specs.Basics.{bit, done}
 use Rattle.basics.proofs.Choices.{set-bit}
 use Rattle.circle.specs.Lengths.{isLong}
@@ -14,15 +14,15 @@ use Rattle.frame_writer.specs.declared.Wrote.{Wrote}
 use Rattle.frame_writer.specs.Answers.{left}
 use Rattle.bearer.specs.Bearer.{mostRuns, mostRecords, answering}
 use Rattle.bearer.specs.Losses.{newRuns, withRuns}
-use Rattle.bearer.specs.Keeper.{Keeper, Record, newRecord, recordsWith, runsAfter, arrive, expire, confirm, mayGo, reportedState, reportedAs, status}
-use Rattle.bearer.specs.Keeper.{_with-closed_}
-use Rattle.keeper_judge.specs.declared.Words.{Words}
+use Rattle.bearer.specs.Keeper.{Keeper, Record, newRecord, recordsWith, runsAfter, arrive, expire, confirm, mayGo, reportedState, reportedAs, status, _with-closed_}
+use Rattle.keeper_state.specs.declared.Words.{Words}
 use Rattle.keeper_judge.specs.declared.Losses.{Losses}
 use Rattle.keeper_judge.specs.declared.Plan.{Plan}
-use Rattle.keeper_judge.specs.declared.Gone.{Gone}
-use Rattle.keeper_judge.specs.State.{_saying-base_, _saying-reported_, _saying-closed_, _saying-runs_, _saying-records_, modulusIn, heldIn, listedIn, recordsOf, stateOf, stateIn, Fronts}
-use Rattle.keeper_judge.specs.Judgements.{Losing, Loses, AcceptsArrival, AcceptsExpiry, AcceptsConfirm, AcceptsStatus}
-use Rattle.keeper_judge.proofs.Letting.{run-within}
+use Rattle.keeper_report.specs.declared.Gone.{Gone}
+use Rattle.keeper_state.specs.State.{_saying-base_, _saying-reported_, _saying-closed_, _saying-runs_, _saying-records_, modulusIn, heldIn, listedIn, recordsOf, stateOf, stateIn, Fronts}
+use Rattle.keeper_judge.specs.Judgements.{Losing, Loses, AcceptsArrival, AcceptsExpiry}
+use Rattle.keeper_report.specs.Reports.{AcceptsConfirm, AcceptsStatus}
+use Rattle.keeper_report.proofs.Letting.{run-within}
 use Rattle.keeper.specs.View.{wordsOf, keeperIn}
 use Rattle.keeper.specs.Steps.{statusWith, BuildsFrame}
 use Rattle.keeper.proofs.Records.{records-mark}

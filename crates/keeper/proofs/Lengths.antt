@@ -1,28 +1,15 @@
--- The words: all stored, and what a length L means.
+-- What a length L means.
 -- Assumes nothing.
 use mathlib.Core.Path.{_≡_, refl}
 use mathlib.Core.Bool.{Bool, true, false}
 use mathlib.Core.Logic.{_⊎_, inl, inr, ⊎-elim}
-use mathlib.Core.List.{List, [], _∷_}
-use Prim.Native.Nat.{ℕ, _-_, _^_, min}
+use Prim.Native.Nat.{ℕ, _^_, min}
 use native.Mathlib.Omega.{arith}
 use lib.Dec.{eqb}
-use lib.ListN.{length, set}
 use borrow.Author.Tests.{eqb-true}
 use Rattle.circle.specs.Circle.{forward}
 use Rattle.basics.specs.Basics.{_or_}
 use Rattle.circle.specs.Lengths.{isLength, pdcpBefore, lengthIn}
-
--- six stores write the whole
-pub stored : (w : List ℕ) (a b c d e f : ℕ) → length w ≡ 6 → set (set (set (set (set (set w 0 a) 1 b) 2 c) 3 d) 4 e) 5 f ≡ a ∷ b ∷ c ∷ d ∷ e ∷ f ∷ []
-stored [] a b c d e f h = absurd (omega arith)
-stored (_ ∷ []) a b c d e f h = absurd (omega arith)
-stored (_ ∷ _ ∷ []) a b c d e f h = absurd (omega arith)
-stored (_ ∷ _ ∷ _ ∷ []) a b c d e f h = absurd (omega arith)
-stored (_ ∷ _ ∷ _ ∷ _ ∷ []) a b c d e f h = absurd (omega arith)
-stored (_ ∷ _ ∷ _ ∷ _ ∷ _ ∷ []) a b c d e f h = absurd (omega arith)
-stored (_ ∷ _ ∷ _ ∷ _ ∷ _ ∷ _ ∷ []) a b c d e f h = refl
-stored (_ ∷ _ ∷ _ ∷ _ ∷ _ ∷ _ ∷ _ ∷ w) a b c d e f h = absurd (omega arith)
 
 -- a length is 12, 15 or 18
 length-cases : (L : ℕ) → isLength L ≡ true → (L ≡ 12) ⊎ ((L ≡ 15) ⊎ (L ≡ 18))

@@ -8,7 +8,7 @@ use borrow.Author.Tests.{lt-ltb, le-ltb}
 use Rattle.circle.specs.Lengths.{modulus, isLength, isLong, modulusOf, pdcps, lengthIn}
 use Rattle.bearer.specs.Bearer.{refusing, answering}
 use Rattle.bearer.specs.Keeper.{Keeper, openKeeper}
-use Rattle.keeper_judge.specs.State.{stateOf}
+use Rattle.keeper_state.specs.State.{stateOf}
 use Rattle.keeper.specs.View.{freshWords, opensInto}
 use Rattle.keeper.proofs.Lengths.{length-read}
 

@@ -8,8 +8,8 @@ use lib.ListN.{length, getD, set, take, drop}
 use lib.Seq.{length-take-le}
 use Rattle.bearer.specs.Bearer.{mostRecords}
 use Rattle.bearer.specs.Keeper.{Record, noRecord, newRecord, recordsWith, delivered}
-use Rattle.keeper_judge.specs.State.{recordsOf}
-use Rattle.keeper_judge.proofs.Records.{recordOf, records-take, records-drop}
+use Rattle.keeper_state.specs.State.{recordsOf}
+use Rattle.keeper_state.proofs.Records.{recordOf, records-take, records-drop}
 
 -- a record put in among records, of as many of all three
 records-with : (i n p : ℕ) (ns ps cs : List ℕ) → i ≤ length ns → length ns ≡ length ps → length ns ≡ length cs

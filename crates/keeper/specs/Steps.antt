@@ -10,8 +10,9 @@ use Rattle.frame_layout.specs.Frames.{Range, Status, rangesOf}
 use Rattle.frame_writer.specs.declared.Head.{Head}
 use Rattle.bearer.specs.Keeper.{Keeper, unreported, reportedState, status}
 use Rattle.keeper_judge.specs.declared.Losses.{Losses}
-use Rattle.keeper_judge.specs.declared.Gone.{Gone}
-use Rattle.keeper_judge.specs.Judgements.{Losing, goneOf}
+use Rattle.keeper_report.specs.declared.Gone.{Gone}
+use Rattle.keeper_judge.specs.Judgements.{Losing}
+use Rattle.keeper_report.specs.Reports.{goneOf}
 use Rattle.keeper.specs.declared.Built as B
 
 -- what is lost can be listed behind the first so many runs of starts and ends

@@ -1,6 +1,6 @@
 -- How the lent arrays stand for the secondary's machine (the crate bearer, Keeper.antt), and what the answers mean in
 -- document 01's words. Slots past a count are no part of the state; a count past the end counts as full, and a length
--- that is none of document 01's counts as 18, so that arrays of any content are a state (the crate keeper_judge, State.antt).
+-- that is none of document 01's counts as 18, so that arrays of any content are a state (the crate keeper_state, State.antt).
 -- Assumes nothing.
 use mathlib.Core.List.{List, [], _∷_}
 use Prim.Native.Nat.{ℕ}
@@ -9,9 +9,9 @@ use Rattle.basics.specs.Basics.{isSet, Outcome, done, refused}
 use Rattle.circle.specs.Lengths.{pdcpBefore}
 use Rattle.bearer.specs.Bearer.{After, refusing, answering}
 use Rattle.bearer.specs.Keeper.{Keeper, Reported, unreported}
-use Rattle.keeper_judge.specs.declared.Words.{Words}
-use Rattle.keeper_judge.specs.State.{listedIn, heldIn, stateIn}
-pub use Rattle.keeper_judge.specs.State.{recordsOf}
+use Rattle.keeper_state.specs.declared.Words.{Words}
+use Rattle.keeper_state.specs.State.{listedIn, heldIn, stateIn}
+pub use Rattle.keeper_state.specs.State.{recordsOf}
 use Rattle.keeper.specs.declared.Shown.{Shown}
 use Rattle.keeper.specs.declared.Opened as O
 use Rattle.keeper.specs.declared.Counted as C

@@ -1,20 +1,20 @@
 // The secondary's loss keeper (SeNB end): open, arrival, expiry, confirm, status. The state is lent arrays of numbers,
 // changed in place: records in sending order (number, PDCP number, mark of confirmation), listed runs (start, end), and six
 // words: L, base, the reported highest, closed, how many runs, how many records. specs/View.antt says how they are read.
-// Each call is judged (the crate keeper_judge) before anything is changed.
+// Each call is judged (the crates keeper_judge and keeper_report) before anything is changed.
 ghost use mathlib.Core.Path.{_≡_};
-ghost use mathlib.Core.Bool.{Bool, true};
-ghost use mathlib.Core.List.{List, [], _∷_, _++_};
+ghost use mathlib.Core.Bool.{true};
+ghost use mathlib.Core.List.{_∷_, _++_};
 ghost use Prim.Native.Nat.{ℕ, _+_, _-_, _≤_, _<_, min};
 ghost use lib.ListN.{length, getD, take, drop};
 ghost use Rattle.basics.specs.Basics.{bit};
-ghost use Rattle.circle.specs.Lengths.{modulus, isLength, pdcpBefore};
+ghost use Rattle.circle.specs.Lengths.{modulus, isLength};
 ghost use Rattle.frame_layout.specs.Frames.{rangesOf, mostRanges, writeStatus};
 ghost use Rattle.frame_writer.specs.Answers.{left};
 ghost use Rattle.bearer.specs.Bearer.{mostRuns, mostRecords};
 ghost use Rattle.bearer.specs.Losses.{newRuns, withRuns};
 ghost use Rattle.bearer.specs.Keeper.{openKeeper, newRecord, recordsWith, arrive as «arriveOf», expire as «expireOf», confirm as «confirmOf», status as «statusOf»};
-ghost use Rattle.keeper_judge.specs.State.{_saying-base_, _saying-reported_, _saying-closed_, _saying-runs_, _saying-records_, modulusIn, heldIn, listedIn, recordsOf, stateIn};
+ghost use Rattle.keeper_state.specs.State.{_saying-base_, _saying-reported_, _saying-closed_, _saying-runs_, _saying-records_, modulusIn, heldIn, listedIn, recordsOf, stateIn};
 ghost use Rattle.keeper_judge.specs.Judgements.{Losing};
 ghost use Rattle.keeper.specs.View.{wordsIn, wordsOf, freshWords, shownIn, keeperIn, openedAs, countedAs, confirmedAs, reportedAs, opensInto, arrays};
 ghost use Rattle.keeper.specs.Steps.{Lists, statusWith, Builds};
@@ -22,19 +22,19 @@ use frame_writer::Head;
 use frame_writer::Wrote;
 use keeper_judge::Arrival;
 use keeper_judge::Expiry;
-use keeper_judge::Found;
-use keeper_judge::Gone;
 use keeper_judge::Losses;
-use keeper_judge::Report;
-use keeper_judge::Words;
+use keeper_report::Found;
+use keeper_report::Gone;
+use keeper_report::Report;
+use keeper_state::Words;
 
 // How many words there are.
 const WORDS: usize = 6;
 
 // The lent arrays: a number of each record, one of each listed run, and the words.
-pub type RecordArray = keeper_judge::RecordArray;
+pub type RecordArray = keeper_state::RecordArray;
 
-pub type RunArray = keeper_judge::RunArray;
+pub type RunArray = keeper_state::RunArray;
 
 pub type WordArray = [u32; WORDS];
 
@@ -179,7 +179,7 @@ pub fn confirm(
     ensures { λ r. ⌜ ((n : ℕ) → r ≡ Confirmed.Refused n → arrays (now (numbers .exit)) (now (pdcps .exit)) (now (marks .exit)) (now (starts .exit)) (now (ends .exit)) (now (words .exit))
         ≡ arrays (now (numbers .entry)) (now (pdcps .entry)) (now (marks .entry)) (now (starts .entry)) (now (ends .entry)) (now (words .entry))) ⌝ }
 {
-    match keeper_judge::judge_confirm(read(words), numbers, pdcps, marks, number) {
+    match keeper_report::judge_confirm(read(words), numbers, pdcps, marks, number) {
         Found::Refused(n) => Confirmed::Refused(n),
         Found::At(at) => {
             marks[at] = 1;
@@ -260,30 +260,24 @@ fn read(words: &WordArray) -> Words
 }
 
 // All are written.
-fn store(words: &mut [u32], w: Words)
-    requires { ⌜ length (now words) ≡ 6 ⌝ }
+fn store(words: &mut WordArray, w: Words)
     ensures { λ _. ⌜ now (words .exit) ≡ wordsOf w ⌝ }
 {
-    words[0] = w.bits;
-    words[1] = w.base;
-    words[2] = w.reported;
-    words[3] = w.closed;
-    words[4] = w.runs;
-    words[5] = w.records;
+    *words = [w.bits, w.base, w.reported, w.closed, w.runs, w.records];
 }
 
 // How many runs a word says are listed: a count past the end counts as full.
 fn listed_in(word: u32) -> usize
     ensures { λ r. ⌜ r ≡ min word mostRuns ⌝ }
 {
-    basics::least(word as usize, keeper_judge::MOST_RUNS)
+    basics::least(word as usize, keeper_state::MOST_RUNS)
 }
 
 // How many records a word says are held: a count past the end counts as full.
 fn held_in(word: u32) -> usize
     ensures { λ r. ⌜ r ≡ min word mostRecords ⌝ }
 {
-    basics::least(word as usize, keeper_judge::MOST_RECORDS)
+    basics::least(word as usize, keeper_state::MOST_RECORDS)
 }
 
 // The words of a fresh end: the reported highest is the PDCP number before the first, forward from 1 to it.
@@ -405,7 +399,7 @@ fn drop_runs(starts: &mut RunArray, ends: &mut RunArray, word: u32) -> u32
         ≡ drop mostRanges (take (min word mostRuns) (rangesOf (now (starts .entry)) (now (ends .entry)))) ⌝ }
 {
     let listed = listed_in(word);
-    let carried = basics::least(listed, keeper_judge::MOST_RANGES);
+    let carried = basics::least(listed, frame_layout::MOST_RANGES);
     take_off(starts, listed, carried);
     take_off(ends, listed, carried);
     (listed - carried) as u32
@@ -487,7 +481,7 @@ fn build(
 ) -> Built
     ensures { λ r. ⌜ Builds r (stateIn w (now (numbers .entry)) (now (pdcps .entry)) (now (marks .entry)) (now (starts .entry)) (now (ends .entry))) desired minimum last (now (dst .entry)) (now (dst .exit)) ⌝ }
 {
-    match keeper_judge::judge_status(w, numbers, pdcps, marks, starts, ends, last) {
+    match keeper_report::judge_status(w, numbers, pdcps, marks, starts, ends, last) {
         Report::Refused(n) => Built::Refused(n),
         Report::Says(gone) => {
             let head = Head {
@@ -512,7 +506,7 @@ fn build(
 fn write_runs(head: Head, word: u32, starts: &RunArray, ends: &RunArray, dst: &mut [u8]) -> Wrote
     ensures { λ r. ⌜ left r (now (dst .exit)) ≡ writeStatus (statusWith head (take mostRanges (take (min word mostRuns) (rangesOf (now (starts .entry)) (now (ends .entry)))))) (now (dst .entry)) ⌝ }
 {
-    let carried = basics::least(listed_in(word), keeper_judge::MOST_RANGES);
+    let carried = basics::least(listed_in(word), frame_layout::MOST_RANGES);
     frame_writer::write_status(
         head,
         basics::front_words(starts, carried),

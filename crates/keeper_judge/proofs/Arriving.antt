@@ -15,9 +15,9 @@ use Rattle.bearer.specs.Bearer.{After, refusing, answering, mostRuns, mostRecor
 use Rattle.bearer.specs.Losses.{fromOn, bearsBefore, placeIn, floorBehind, sizeOf}
 use Rattle.bearer.specs.Keeper.{Keeper, Record, numbersOf, runsAfter, givenUp, limitOf, placeOf, baseArrived, arrived, arriveAt, arrive}
 use Rattle.keeper_loss.proofs.Ends.{front-within}
-use Rattle.keeper_judge.specs.declared.Words.{Words}
+use Rattle.keeper_state.specs.declared.Words.{Words}
 use Rattle.keeper_judge.specs.declared.Losses.{Losses}
-use Rattle.keeper_judge.specs.State.{modulusIn, stateOf}
+use Rattle.keeper_state.specs.State.{modulusIn, stateOf}
 use Rattle.keeper_judge.specs.Judgements.{Losing, AcceptsArrival}
 use Rattle.keeper_judge.proofs.Given.{same-outcome}
 

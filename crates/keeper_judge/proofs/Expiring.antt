@@ -1,6 +1,6 @@
 -- The machine's judgement of an expiry, from the tests that the engine makes in the same order.
 -- Assumes nothing.
-use mathlib.Core.Path.{_≡_, sym, _∙_, ap}
+use mathlib.Core.Path.{_≡_, sym, _∙_}
 use mathlib.Core.List.{List}
 use Prim.Native.Nat.{ℕ, _≤_, _<_}
 use native.Mathlib.Omega.{arith}
@@ -10,9 +10,9 @@ use Rattle.frame_layout.specs.Frames.{Range}
 use Rattle.bearer.specs.Bearer.{refusing, mostRuns}
 use Rattle.bearer.specs.Losses.{topOf, offsets, fromBase, raisedBase}
 use Rattle.bearer.specs.Keeper.{Keeper, Record, numbersOf, runsAfter, expireBelow, expire}
-use Rattle.keeper_judge.specs.declared.Words.{Words}
+use Rattle.keeper_state.specs.declared.Words.{Words}
 use Rattle.keeper_judge.specs.declared.Losses.{Losses}
-use Rattle.keeper_judge.specs.State.{modulusIn, stateOf}
+use Rattle.keeper_state.specs.State.{modulusIn, stateOf}
 use Rattle.keeper_judge.specs.Judgements.{Losing, AcceptsExpiry}
 use Rattle.keeper_judge.proofs.Given.{same-outcome}
 

@@ -1,16 +1,15 @@
 -- What is given up below a distance, put together from what a pass over the numbers tells.
 -- Assumes nothing.
 use mathlib.Core.Path.{_≡_, refl, sym, _∙_, ap}
-use mathlib.Core.Bool.{Bool}
 use mathlib.Core.List.{List, [], _∷_, map}
-use Prim.Native.Nat.{ℕ, zero, suc, _+_, _%_, _≤_, _<_}
+use Prim.Native.Nat.{ℕ, zero, suc, _+_, _%_, _<_}
 use native.Mathlib.Omega.{arith}
 use lib.ListN.{length, drop, length-map}
 use Rattle.basics.specs.Basics.{bit}
 use Rattle.frame_layout.specs.Frames.{Range, endsOf}
 use Rattle.bearer.specs.Bearer.{After, answering}
 use Rattle.bearer.specs.Keeper.{Keeper, Record, _with-base_, _with-runs_, _with-records_}
-use Rattle.bearer.specs.Losses.{Gap, gaps, offsets, fromBase, lostBelow, runOf, newRuns, withRuns}
+use Rattle.bearer.specs.Losses.{Gap, gaps, offsets, fromBase, lostBelow, runOf, newRuns}
 use Rattle.keeper_loss.specs.declared.GivenUp.{GivenUp}
 use Rattle.keeper_loss.specs.Tally.{firstFrom, told}
 use Rattle.keeper_loss.proofs.Gaps.{gaps-none}

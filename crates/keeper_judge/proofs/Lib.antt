@@ -1,10 +1,5 @@
 pub mod Numbers
-pub mod Ranges
-pub mod Records
-pub mod Fronts
 pub mod Joining
 pub mod Given
 pub mod Arriving
 pub mod Expiring
-pub mod Confirming
-pub mod Letting

@@ -1,16 +1,14 @@
--- Lists of numbers at their last element, in front of a place, past the first 162, or from a place on.
+-- Lists of numbers at their last element, in front of a place, or from a place on.
 -- Assumes nothing.
 use mathlib.Core.Path.{_≡_, refl}
-use mathlib.Core.Bool.{true, false}
+use mathlib.Core.Bool.{false}
 use mathlib.Core.List.{List, [], _∷_}
-use Prim.Native.Nat.{ℕ, zero, suc, _+_, _-_, _≤_, _<_}
+use Prim.Native.Nat.{ℕ, zero, suc, _+_, _-_, _<_}
 use native.Mathlib.Omega.{arith}
-use lib.Dec.{ltb, eqb}
-use lib.ListN.{length, getD, take, drop, length-drop, drop-of-length-le}
-use lib.Seq.{drop-cons, take-all}
-use Rattle.circle.specs.Circle.{forward}
-use Rattle.frame_layout.specs.Frames.{mostRanges}
-use Rattle.bearer.specs.Losses.{bearsBefore, adjoins, goesBefore}
+use lib.Dec.{eqb}
+use lib.ListN.{length, getD, take, drop, length-drop}
+use lib.Seq.{take-all}
+use Rattle.bearer.specs.Losses.{bearsBefore, adjoins}
 use Rattle.keeper_judge.specs.Judgements.{adjoinsLast}
 
 -- ---- the last of the ends
@@ -26,23 +24,6 @@ adjoins-at M start [] i h = absurd (omega arith)
 adjoins-at M start (e ∷ []) i h = let z : i ≡ 0 = omega arith in rw z
 adjoins-at M start (e ∷ f ∷ es) zero h = absurd (omega arith)
 adjoins-at M start (e ∷ f ∷ es) (suc i) h = adjoins-at M start (f ∷ es) i (omega arith)
-
--- ---- the first run left out
-
-module _ (M base n : ℕ) where
-  -- what isn't confirmed doesn't go
-  pub goes-not : (ss : List ℕ) → goesBefore M base ss n false ≡ false
-  goes-not [] = refl
-  goes-not (s ∷ ss) = refl
-
-  -- where no run is left out, what is confirmed goes
-  pub goes-all : (ss : List ℕ) → length ss ≤ mostRanges → goesBefore M base (drop mostRanges ss) n true ≡ true
-  goes-all ss h = rw (drop-of-length-le ss h)
-
-  -- where one is, what is confirmed and before it
-  pub goes-past : (ss : List ℕ) → mostRanges < length ss
-      → goesBefore M base (drop mostRanges ss) n true ≡ ltb (forward M (getD ss mostRanges 0) base) (forward M n base)
-  goes-past ss h = rw (drop-cons ss mostRanges 0 h)
 
 -- ---- places
 

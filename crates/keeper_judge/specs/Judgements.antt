@@ -5,20 +5,16 @@ use mathlib.Core.Path.{_≡_}
 use mathlib.Core.Bool.{Bool, false}
 use mathlib.Core.List.{List, [], _∷_}
 use Prim.Native.Nat.{ℕ, _≤_, _<_}
-use lib.ListN.{length, getD, drop, set}
+use lib.ListN.{length, drop}
 use Rattle.circle.specs.Lengths.{modulusOf}
-use Rattle.frame_layout.specs.Frames.{Range, endsOf, writeStatus}
+use Rattle.frame_layout.specs.Frames.{Range, endsOf}
 use Rattle.bearer.specs.Bearer.{After, refusing, answering, mostRuns, mostRecords}
 use Rattle.bearer.specs.Losses.{fromBase, lostBelow, sizeOf, newRuns, adjoins, withRuns}
-use Rattle.bearer.specs.Keeper.{Keeper, noRecord, delivered, newRecord, recordsWith, held, placeOf, runsAfter, arriveAt, arrive, expire, confirm, letGo, highestOf, unreported, statusNow, reportedAs, status}
-use Rattle.bearer.specs.Keeper.{_with-base_, _with-runs_, _with-records_}
+use Rattle.bearer.specs.Keeper.{Keeper, newRecord, recordsWith, held, placeOf, runsAfter, arriveAt, arrive, expire, _with-base_, _with-runs_, _with-records_}
 use Rattle.keeper_judge.specs.declared.Losses.{Losses}
 use Rattle.keeper_judge.specs.declared.Plan.{Plan}
-use Rattle.keeper_judge.specs.declared.Gone.{Gone}
 use Rattle.keeper_judge.specs.declared.Arrival as A
 use Rattle.keeper_judge.specs.declared.Expiry as E
-use Rattle.keeper_judge.specs.declared.Found as F
-use Rattle.keeper_judge.specs.declared.Report as R
 
 -- ---- what is given up
 
@@ -88,31 +84,3 @@ pub record AcceptsExpiry (plan : Plan) (k : Keeper) : Type 0 where
 abbrev pub JudgesExpiry : E.Expiry → Keeper → Type 0
 JudgesExpiry (E.the-variants.Refused m) k = expire k ≡ refusing m k
 JudgesExpiry (E.the-variants.Accepted plan) k = AcceptsExpiry plan k
-
--- ---- confirm
-
--- an accepted confirm: the record stands there, and is delivered
-pub record AcceptsConfirm (at : ℕ) (k : Keeper) (n : ℕ) : Type 0 where
-  pub within : at < length (k .records)
-  pub outcome : confirm k n ≡ answering tt (k with-records set (k .records) at (delivered (getD (k .records) at noRecord)))
-
--- a judgement of a confirm is the machine's
-abbrev pub JudgesConfirm : F.Found → Keeper → ℕ → Type 0
-JudgesConfirm (F.the-variants.Refused m) k n = confirm k n ≡ refusing m k
-JudgesConfirm (F.the-variants.At at) k n = AcceptsConfirm at k n
-
--- ---- status
-
--- how many records a status lets go, and the highest that is reported then
-abbrev pub goneOf : Keeper → Gone
-goneOf k = record { count = letGo k; highest = highestOf k (letGo k) }
-
--- a status that isn't refused before its frame is written: it answers as the writer does
-pub record AcceptsStatus (gone : Gone) (k : Keeper) (final : Bool) : Type 0 where
-  pub gone-is : gone ≡ goneOf k
-  pub outcome : (desired minimum : ℕ) (d : List ℕ) → status k desired minimum final d ≡ reportedAs k final (writeStatus (statusNow k desired minimum final) d)
-
--- a judgement of a status is the machine's
-abbrev pub JudgesStatus : R.Report → Keeper → Bool → Type 0
-JudgesStatus (R.the-variants.Refused m) k final = (desired minimum : ℕ) (d : List ℕ) → status k desired minimum final d ≡ unreported m k d
-JudgesStatus (R.the-variants.Says gone) k final = AcceptsStatus gone k final

@@ -1,42 +1,23 @@
-// What a call on the secondary's end answers and changes, judged before anything is changed: arrival, expiry, confirm, status. The
-// state is lent to be read: words by name, records in sending order (number, PDCP number, mark of confirmation) and listed runs
-// (start, end). specs/State.antt says how they are read, specs/Judgements.antt what a judgement means.
+// What an arrival and an expiry on the secondary's end answer and change, judged before anything is changed. The state is lent to be read
+// (the crate keeper_state). specs/Judgements.antt says what a judgement means.
 ghost use mathlib.Core.Path.{_≡_};
 ghost use mathlib.Core.List.{List};
-ghost use Prim.Native.Nat.{ℕ, _+_, _^_, _≤_, _<_, min};
-ghost use lib.ListN.{length, drop};
-ghost use Rattle.basics.specs.Basics.{isSet, bit, _and_};
-ghost use lib.Dec.{ltb};
+ghost use Prim.Native.Nat.{ℕ, _+_, _^_, _≤_, _<_};
+ghost use lib.ListN.{length};
+ghost use Rattle.basics.specs.Basics.{bit};
 ghost use Rattle.circle.specs.Lengths.{modulus};
-ghost use Rattle.frame_layout.specs.Frames.{Range, mostRanges, startsOf, endsOf};
-ghost use Rattle.bearer.specs.Bearer.{mostRuns, mostRecords};
-ghost use Rattle.bearer.specs.Losses.{floorBehind, bearsBefore, offsets, fromBase, raisedBase, goesBefore};
+ghost use Rattle.frame_layout.specs.Frames.{Range, startsOf, endsOf};
+ghost use Rattle.bearer.specs.Losses.{floorBehind, bearsBefore, offsets, raisedBase};
 ghost use Rattle.bearer.specs.Keeper.{Record, numbersOf, limitOf, baseArrived};
-ghost use Rattle.keeper_judge.specs.State.{recordsOf, stateOf, stateIn, HeldSizes, ListedSizes, Fronts};
-ghost use Rattle.keeper_judge.specs.Judgements.{adjoinsLast, noneLost, Losing, Reaches, JudgesArrival, JudgesPlace, JudgesExpiry, JudgesConfirm, JudgesStatus, goneOf};
-
-pub const MOST_RUNS: usize = 256;
-
-pub const MOST_RECORDS: usize = 512;
-
-pub const MOST_RANGES: usize = 162;
+ghost use Rattle.keeper_state.specs.State.{stateOf, stateIn, Fronts};
+ghost use Rattle.keeper_judge.specs.Judgements.{adjoinsLast, noneLost, Losing, Reaches, JudgesArrival, JudgesPlace, JudgesExpiry};
+use keeper_state::MOST_RECORDS;
+use keeper_state::MOST_RUNS;
+use keeper_state::RecordArray;
+use keeper_state::RunArray;
+use keeper_state::Words;
 
 const WINDOW: u32 = 256;
-
-// The lent arrays: a number of each record, and one of each listed run.
-pub type RecordArray = [u32; MOST_RECORDS];
-
-pub type RunArray = [u32; MOST_RUNS];
-
-// The words: L, base, the reported highest, whether the end is closed, how many runs are listed and how many records held.
-pub struct Words {
-    pub bits: u32,
-    pub base: u32,
-    pub reported: u32,
-    pub closed: u32,
-    pub runs: u32,
-    pub records: u32,
-}
 
 // What is given up below the distance `limit` from base: how many numbers, how many runs are listed then, and whether the
 // first new run joins the last listed one. The records from `from` on lie at or past base (not asked where `limit` is 0).
@@ -66,24 +47,6 @@ pub enum Expiry {
     Accepted(Plan),
 }
 
-// How a confirm is judged: where the record stands that it marks.
-pub enum Found {
-    Refused(u32),
-    At(usize),
-}
-
-// How many records a status lets go, and the highest PDCP number that it reports.
-pub struct Gone {
-    pub count: usize,
-    pub highest: u32,
-}
-
-// How a status is judged, before its frame is written.
-pub enum Report {
-    Refused(u32),
-    Says(Gone),
-}
-
 // ---- the calls
 
 // Arrival of a number and a PDCP number.
@@ -100,8 +63,8 @@ pub fn judge_arrival(
     ensures { λ r. ⌜ JudgesArrival r (stateIn w (now (numbers .entry)) (now (pdcps .entry)) (now (marks .entry)) (now (starts .entry)) (now (ends .entry))) number pdcp ⌝ }
     ensures { λ r. ⌜ Fronts w (now (numbers .entry)) (stateIn w (now (numbers .entry)) (now (pdcps .entry)) (now (marks .entry)) (now (starts .entry)) (now (ends .entry))) ⌝ }
 {
-    let held = held_in(w.records, numbers, pdcps, marks);
-    let listed = listed_in(w.runs, starts, ends);
+    let held = keeper_state::held_in(w.records, numbers, pdcps, marks);
+    let listed = keeper_state::listed_in(w.runs, starts, ends);
     judge_number(
         w,
         basics::front_words(numbers, held),
@@ -124,98 +87,13 @@ pub fn judge_expiry(
     ensures { λ r. ⌜ JudgesExpiry r (stateIn w (now (numbers .entry)) (now (pdcps .entry)) (now (marks .entry)) (now (starts .entry)) (now (ends .entry))) ⌝ }
     ensures { λ r. ⌜ Fronts w (now (numbers .entry)) (stateIn w (now (numbers .entry)) (now (pdcps .entry)) (now (marks .entry)) (now (starts .entry)) (now (ends .entry))) ⌝ }
 {
-    let held = held_in(w.records, numbers, pdcps, marks);
-    let listed = listed_in(w.runs, starts, ends);
+    let held = keeper_state::held_in(w.records, numbers, pdcps, marks);
+    let listed = keeper_state::listed_in(w.runs, starts, ends);
     judge_below(
         w,
         basics::front_words(numbers, held),
         basics::front_words(ends, listed),
     )
-}
-
-// Confirm of a number: 9, 10, 16, or where its record stands. Runs are not looked at.
-pub fn judge_confirm(
-    w: Words,
-    numbers: &RecordArray,
-    pdcps: &RecordArray,
-    marks: &RecordArray,
-    number: u32,
-) -> Found
-    ensures { λ r. ⌜ ((ss es : List ℕ) → JudgesConfirm r (stateIn w (now (numbers .entry)) (now (pdcps .entry)) (now (marks .entry)) ss es) number) ⌝ }
-{
-    if w.closed != 0 {
-        return Found::Refused(refusal::CLOSED);
-    }
-    let long = circle::is_long(w.bits);
-    if circle::modulus(long) <= number {
-        return Found::Refused(refusal::NUMBER);
-    }
-    let held = held_in(w.records, numbers, pdcps, marks);
-    let at = keeper_loss::index_of(basics::front_words(numbers, held), number);
-    if held <= at {
-        return Found::Refused(refusal::NO_RECORD);
-    }
-    if !keeper_loss::is_before(w.base, number, long) {
-        return Found::Refused(refusal::NO_RECORD);
-    }
-    if marks[at] != 0 {
-        return Found::Refused(refusal::NO_RECORD);
-    }
-    Found::At(at)
-}
-
-// Status: 9, 22, or what it lets go and the highest that it reports.
-pub fn judge_status(
-    w: Words,
-    numbers: &RecordArray,
-    pdcps: &RecordArray,
-    marks: &RecordArray,
-    starts: &RunArray,
-    ends: &RunArray,
-    last: bool,
-) -> Report
-    ensures { λ r. ⌜ JudgesStatus r (stateIn w (now (numbers .entry)) (now (pdcps .entry)) (now (marks .entry)) (now (starts .entry)) (now (ends .entry))) last ⌝ }
-{
-    let held = held_in(w.records, numbers, pdcps, marks);
-    let listed = listed_in(w.runs, starts, ends);
-    if w.closed != 0 {
-        return Report::Refused(refusal::CLOSED);
-    }
-    if leaves_out(last, listed) {
-        return Report::Refused(refusal::FINAL_RUNS);
-    }
-    let gone = let_go(
-        w,
-        basics::front_words(numbers, held),
-        basics::front_words(pdcps, held),
-        basics::front_words(marks, held),
-        basics::front_words(starts, listed),
-    );
-    Report::Says(gone)
-}
-
-// ---- how many there are
-
-// How many records are held: a count past the end counts as full.
-fn held_in(word: u32, numbers: &RecordArray, pdcps: &RecordArray, marks: &RecordArray) -> usize
-    ensures { λ r. ⌜ (r ≡ min word mostRecords) × HeldSizes (now (numbers .entry)) (now (pdcps .entry)) (now (marks .entry)) ⌝ }
-{
-    let most = basics::least(shorter(numbers, pdcps), shorter(pdcps, marks));
-    basics::least(word as usize, most)
-}
-
-// How many runs are listed: a count past the end counts as full.
-fn listed_in(word: u32, starts: &RunArray, ends: &RunArray) -> usize
-    ensures { λ r. ⌜ (r ≡ min word mostRuns) × ListedSizes (now (starts .entry)) (now (ends .entry)) ⌝ }
-{
-    basics::least(word as usize, shorter(starts, ends))
-}
-
-// The length of the shorter of two lists.
-fn shorter(a: &[u32], b: &[u32]) -> usize
-    ensures { λ r. ⌜ r ≡ min (length (now (a .entry))) (length (now (b .entry))) ⌝ }
-{
-    basics::least(a.len(), b.len())
 }
 
 // ---- arrival
@@ -442,55 +320,4 @@ fn judge_below(w: Words, numbers: &[u32], ends: &[u32]) -> Expiry
         base: base,
         lost: lost,
     })
-}
-
-// ---- status
-
-// Whether a last status would leave out runs.
-fn leaves_out(last: bool, listed: usize) -> bool
-    ensures { λ r. ⌜ r ≡ last and ltb mostRanges listed ⌝ }
-{
-    if !last {
-        return false;
-    }
-    MOST_RANGES < listed
-}
-
-// What a status lets go: the records at the front that are confirmed and lie before the first run left out.
-fn let_go(w: Words, numbers: &[u32], pdcps: &[u32], marks: &[u32], starts: &[u32]) -> Gone
-    requires { ⌜ (length (now numbers) ≡ length (now pdcps)) × (length (now numbers) ≡ length (now marks)) ⌝ }
-    ensures { λ r. ⌜ ((runs : List Range) → startsOf runs ≡ now (starts .entry)
-        → r ≡ goneOf (stateOf w runs (recordsOf (now (numbers .entry)) (now (pdcps .entry)) (now (marks .entry))))) ⌝ }
-{
-    let long = circle::is_long(w.bits);
-    let base = w.base;
-    let mut highest = w.reported;
-    let mut i = 0;
-    while i < numbers.len() {
-        if !may_go(starts, base, long, numbers[i], marks[i]) {
-            return Gone {
-                count: i,
-                highest: highest,
-            };
-        }
-        highest = pdcps[i];
-        i += 1;
-    }
-    Gone {
-        count: i,
-        highest: highest,
-    }
-}
-
-// Whether a record may go.
-fn may_go(starts: &[u32], base: u32, long: bool, number: u32, mark: u32) -> bool
-    ensures { λ r. ⌜ r ≡ goesBefore (modulus long) base (drop mostRanges (now (starts .entry))) number (isSet mark) ⌝ }
-{
-    if mark == 0 {
-        return false;
-    }
-    if starts.len() <= MOST_RANGES {
-        return true;
-    }
-    circle::distance(starts[MOST_RANGES], base, long) < circle::distance(number, base, long)
 }

@@ -1,11 +1,9 @@
 // Where numbers lie as seen from base, and what is given up below a distance from it: passes over a lent list of numbers.
 // Numbers are of the short form (modulo 2^16) or the long one (modulo 2^24); distances are forward from base.
 ghost use mathlib.Core.Path.{_≡_};
-ghost use mathlib.Core.Bool.{Bool};
-ghost use Prim.Native.Nat.{_+_, _-_, _/_, _%_, _^_, _≤_, _<_, max};
+ghost use Prim.Native.Nat.{_+_, _-_, _^_, _<_, max};
 ghost use lib.ListN.{length, set};
 ghost use lib.Seq.{sets};
-ghost use Rattle.circle.specs.Circle.{forward};
 ghost use Rattle.circle.specs.Lengths.{modulus as «modulusOf»};
 ghost use Rattle.frame_layout.specs.Frames.{startsOf, endsOf};
 ghost use Rattle.bearer.specs.Losses.{beforeBase, behind as «behindOf», fromOn, frontOf, firstBehind, topOf, offsets, outside as «outsideOf», gap, gaps as «gapsOf», lowest as «lowestOf», runsOf};

@@ -17,10 +17,11 @@ use Rattle.bearer.specs.Bearer.{mostEntries}
 use Rattle.bearer.specs.Ledger.{Entry, Ledger, Passed, fresh, inOrder, newEntry, send, markLost, waitsFor, freed, freeThrough, acceptedState, acceptMarked, acceptStatus, acceptReading, accept, openLedger, takeAt, takeOldest, _with-next_, _with-sent_, _with-entries_}
 use Rattle.frame_reader.specs.declared.Frame.{Frame}
 use Rattle.frame_reader.specs.Answers.{readingOf}
-use Rattle.ledger_entries.specs.declared.Marked.{Marked}
+use Rattle.ledger_marks.specs.declared.Marked.{Marked}
 use Rattle.ledger_entries.specs.declared.Kept.{Kept}
 use Rattle.ledger_entries.specs.View.{heldIn}
-use Rattle.ledger_entries.specs.Steps.{markedAs, keptOf, freeWhile}
+use Rattle.ledger_entries.specs.Steps.{keptOf, freeWhile}
+use Rattle.ledger_marks.specs.Walked.{markedAs}
 use Rattle.ledger_entries.proofs.Entries.{Stands}
 use Rattle.ledger.specs.View.{beside}
 

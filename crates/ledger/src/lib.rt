@@ -205,7 +205,7 @@ fn apply(l: Ledger, frame: &[u8], head: Head) -> Accepting
         ≡ acceptMarked (ledgerIn l) (statusIn (now (frame .entry)) head) (markLost (ledgerIn l .bits) (ledgerIn l .entries) (statusIn (now (frame .entry)) head .ranges)) ⌝ }
 {
     let es = l.entries;
-    let marked = ledger_entries::mark(es, l.count, frame, frame_reader::first_range(head));
+    let marked = ledger_marks::mark(es, l.count, frame, frame_reader::first_range(head));
     if !marked.found {
         return not_accepted(l, refusal::NOT_WAITING);
     }

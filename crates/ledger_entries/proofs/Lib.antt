@@ -1,4 +1,2 @@
 pub mod Entries
-pub mod Walks
-pub mod Marks
 pub mod Passes

@@ -17,7 +17,10 @@ use Rattle.ledger_entries.specs.declared.Entry.{Entry as Slot}
 use Rattle.ledger_entries.specs.View.{entryIn, heldIn}
 use Rattle.ledger_entries.specs.Steps.{freeWhile}
 use Rattle.ledger_entries.proofs.Entries.{Stands, Reached, here, stored}
-use Rattle.ledger_entries.proofs.Marks.{inFront}
+
+-- entries passed, c of them counted, in front of what a pass did behind them
+abbrev pub inFront : ℕ → List (Entry Unit) → Passed Unit → Passed Unit
+inFront c xs p = record { entries = xs ++ p .entries; count = c + p .count }
 
 -- ---- looking for a waiting entry's PDCP number
 

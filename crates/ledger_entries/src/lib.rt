@@ -3,17 +3,14 @@
 ghost use mathlib.Core.Path.{_≡_};
 ghost use mathlib.Core.Bool.{not};
 ghost use mathlib.Core.List.{_++_};
-ghost use Prim.Native.Nat.{ℕ, _+_, _≤_, min};
+ghost use Prim.Native.Nat.{_+_, _≤_, min};
 ghost use lib.Dec.{eqb};
 ghost use lib.ListN.{take, drop};
 ghost use Rattle.basics.specs.Basics.{_and_, _or_};
-ghost use Rattle.circle.specs.Lengths.{isLong};
 ghost use Rattle.bearer.specs.Bearer.{mostEntries};
-ghost use Rattle.bearer.specs.Ledger.{newEntry, waits as «waitsOf», asLost, markLost, waitsFor, takeAt};
+ghost use Rattle.bearer.specs.Ledger.{newEntry, waits as «waitsOf», asLost, waitsFor, takeAt};
 ghost use Rattle.ledger_entries.specs.View.{entryIn, heldIn};
-ghost use Rattle.ledger_entries.specs.Steps.{walked, markedAs, keptOf, freeWhile};
-use frame_reader::Cursor;
-use frame_reader::Step;
+ghost use Rattle.ledger_entries.specs.Steps.{keptOf, freeWhile};
 
 // How many entries are held at most (refusal 36).
 pub const MOST_ENTRIES: usize = 512;
@@ -29,13 +26,6 @@ pub struct Entry {
     pub number: u32,
     pub pdcp: u32,
     pub fate: Fate,
-}
-
-// Entries with a status's ranges applied, how many became lost, and whether each number of the ranges was found.
-pub struct Marked {
-    pub entries: [Entry; MOST_ENTRIES],
-    pub lost: u32,
-    pub found: bool,
 }
 
 // Entries without those that left, and how many they are.
@@ -58,7 +48,7 @@ pub fn new_entry(number: u32, pdcp: u32) -> Entry
 }
 
 // An entry, lost.
-fn as_lost(e: Entry) -> Entry
+pub fn as_lost(e: Entry) -> Entry
     ensures { λ r. ⌜ entryIn r ≡ asLost (entryIn e) ⌝ }
 {
     Entry {
@@ -79,7 +69,7 @@ fn waits(e: Entry) -> bool
 }
 
 // Whether an entry waits, and a number of its own is the one that is wanted.
-fn matches(e: Entry, own: u32, wanted: u32) -> bool
+pub fn matches(e: Entry, own: u32, wanted: u32) -> bool
     ensures { λ r. ⌜ r ≡ («waitsOf» (entryIn e) and eqb own wanted) ⌝ }
 {
     if waits(e) { own == wanted } else { false }
@@ -100,49 +90,6 @@ fn leaves(e: Entry, going: bool) -> bool
 }
 
 // ---- accepting a status
-
-// The numbers of the ranges, one after another, become lost where they are found among the waiting entries. A range ends
-// where its distance is used up. One place goes through the entries for all the ranges, so no range is walked further than
-// the entries reach.
-pub fn mark(es: [Entry; MOST_ENTRIES], count: usize, frame: &[u8], first: Cursor) -> Marked
-    ensures { λ r. ⌜ ((L : ℕ) → isLong L ≡ first .long → markedAs r count ≡ markLost L (heldIn es count) (walked (now (frame .entry)) first)) ⌝ }
-{
-    let n = basics::least(count, MOST_ENTRIES);
-    let mut m = Marked {
-        entries: es,
-        lost: 0,
-        found: false,
-    };
-    let mut at = first;
-    let mut i: usize = 0;
-    'ranges: loop {
-        let Step::Range { start, end, rest } = frame_view::next_range(frame, at) else {
-            return Marked { found: true, ..m };
-        };
-        at = rest;
-        let mut number = start;
-        let mut further = circle::distance(start, end, first.long);
-        loop {
-            if n <= i {
-                break 'ranges;
-            }
-            let e = m.entries[i];
-            if matches(e, e.number, number) {
-                m.entries[i] = as_lost(e);
-                m.lost += 1;
-                i += 1;
-                if further == 0 {
-                    break;
-                }
-                further -= 1;
-                number = circle::onward(number, 1, first.long);
-            } else {
-                i += 1;
-            }
-        }
-    }
-    m
-}
 
 // Whether a status may bear this highest: the one last accepted again, or a waiting entry's.
 pub fn may_be_highest(es: [Entry; MOST_ENTRIES], count: usize, last: u32, highest: u32) -> bool

@@ -3,14 +3,10 @@
 ghost use Prim.Native.Nat.{_≤_};
 ghost use lib.ListN.{length};
 ghost use Rattle.program_io.specs.Places.{Ready};
-ghost use Rattle.lister.specs.Sizes.{mostText};
-
-const MOST_TEXT: usize = 4096; // no answer is longer
-
-const MOST_HELD: usize = 2037; // of a line: one digit more than the longest frame has
-
-// What is held of a line.
-type Line = [u8; MOST_HELD];
+ghost use Rattle.lister_answers.specs.Answers.{mostText};
+use lister_answers::MOST_TEXT;
+use lister_lines::LineArray;
+use lister_lines::MOST_HELD;
 
 // What one read leaves to the next: how much of an unfinished line is held, the place of the output's next answer, and
 // whether to read on.
@@ -21,7 +17,7 @@ struct State {
 }
 
 // Feeds a block. Where the output can't be written there is nothing more to do.
-fn list_block(block: &[u8], line: &mut Line, out: &mut [u8], state: State) -> State
+fn list_block(block: &[u8], line: &mut LineArray, out: &mut [u8], state: State) -> State
     requires { ⌜ Ready (now out) (state .at) mostText ⌝ }
     ensures { λ r. ⌜ r .at ≤ length (now (out .exit)) ⌝ }
 {
@@ -50,7 +46,7 @@ fn list_block(block: &[u8], line: &mut Line, out: &mut [u8], state: State) -> St
 }
 
 // Reads once, and feeds what came.
-fn list_some(block: &mut [u8], line: &mut Line, out: &mut [u8], state: State) -> State
+fn list_some(block: &mut [u8], line: &mut LineArray, out: &mut [u8], state: State) -> State
     requires { ⌜ Ready (now out) (state .at) mostText ⌝ }
     ensures { λ r. ⌜ r .at ≤ length (now (out .exit)) ⌝ }
 {
@@ -66,7 +62,7 @@ fn list_some(block: &mut [u8], line: &mut Line, out: &mut [u8], state: State) ->
 }
 
 // Writes what is left, with the answer to a last line without its line end.
-fn list_last(line: &Line, out: &mut [u8], state: State)
+fn list_last(line: &LineArray, out: &mut [u8], state: State)
     requires { ⌜ Ready (now out) (state .at) mostText ⌝ }
 {
     let next = program_io::next_place(out, state.at, MOST_TEXT);
@@ -76,7 +72,7 @@ fn list_last(line: &Line, out: &mut [u8], state: State)
 
 // Reads to the end. A proved loop has to end, and nothing says that an input does: it counts its reads down from a
 // number that no run uses up.
-fn list_all(block: &mut [u8], line: &mut Line, out: &mut [u8])
+fn list_all(block: &mut [u8], line: &mut LineArray, out: &mut [u8])
     requires { ⌜ mostText ≤ length (now out) ⌝ }
 {
     let mut state = State {
@@ -93,7 +89,7 @@ fn list_all(block: &mut [u8], line: &mut Line, out: &mut [u8])
 }
 
 // A buffer for an unfinished line.
-fn empty_line() -> Line {
+fn empty_line() -> LineArray {
     [0; MOST_HELD]
 }
 

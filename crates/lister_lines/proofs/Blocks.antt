@@ -7,9 +7,11 @@ use lib.Dec.{eqb}
 use lib.ListN.{length}
 use lib.Seq.{append-snoc}
 use Rattle.basics.specs.Basics.{if_then_else_}
-use Rattle.lister_lines.specs.Listing.{lineFeed, lineOf, onto, linesOf, answersTo, listing}
-use Rattle.lister_lines.specs.Feeding.{mostHeld, roomy, kept, feeding, lastOf}
-use Rattle.lister_lines.proofs.Cases.{true-or}
+use Rattle.lister_text.specs.Texts.{lineFeed, onto}
+use Rattle.lister_answers.specs.Answers.{lineOf, roomy}
+use Rattle.lister_lines.specs.Listing.{linesOf, answersTo, listing}
+use Rattle.lister_lines.specs.Feeding.{mostHeld, kept, feeding, lastOf}
+use Rattle.lister_text.proofs.Cases.{true-or}
 use Rattle.lister_lines.proofs.Kept.{line-kept, take-more}
 
 -- ---- feeding without a limit of room

@@ -11,12 +11,13 @@ use lib.ListN.{length, take, length-append}
 use lib.Seq.{sets, append-snoc, take-all}
 use borrow.Author.Tests.{leb-true, le-leb, not-true}
 use Rattle.basics.proofs.Choices.{and-true}
-use Rattle.lister_lines.specs.Listing.{lineFeed, lineOf}
+use Rattle.lister_text.specs.Texts.{lineFeed, unended}
+use Rattle.lister_answers.specs.Answers.{lineOf, mostText, roomy}
 use Rattle.lister_lines.specs.declared.Fed.{Fed}
 use Rattle.basics.specs.Laid.{Laid}
-use Rattle.lister_lines.specs.Feeding.{mostText, mostHeld, roomy, kept, Feeding, saying, feeding, lastOf, lastIn, Left, leaving, leftBy, unended}
-use Rattle.lister_lines.proofs.Bound.{line-most}
-use Rattle.lister_lines.proofs.Cases.{true-or}
+use Rattle.lister_lines.specs.Feeding.{mostHeld, kept, Feeding, saying, feeding, lastOf, lastIn, Left, leaving, leftBy}
+use Rattle.lister_answers.proofs.Bound.{line-most}
+use Rattle.lister_text.proofs.Cases.{true-or}
 use Rattle.lister_lines.proofs.Kept.{line-kept, take-more, length-kept}
 use Rattle.basics.proofs.Laying.{sets-append}
 

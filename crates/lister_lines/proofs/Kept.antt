@@ -7,16 +7,12 @@ use native.Mathlib.Omega.{arith}
 use borrow.Author.Tests.{lt-ltb}
 use lib.ListN.{length, take, length-take}
 use lib.Seq.{take-all}
-use Rattle.lister_lines.specs.Listing.{ascii, mostDigits, lineOf}
+use Rattle.lister_text.specs.Texts.{ascii}
+use Rattle.lister_text.specs.Hexadecimal.{mostDigits}
+use Rattle.lister_answers.specs.Answers.{lineOf}
 use Rattle.lister_lines.specs.Feeding.{mostHeld, kept}
-use Rattle.lister_lines.proofs.Cases.{below-or}
-
--- where all lists longer than m have the same answer, a list is answered by the m + 1 elements at its front
-pub front-answers : {A : Type 0} (f : List ℕ → A) (x : A) (m : ℕ) → ((l : List ℕ) → m < length l → f l ≡ x) → (l : List ℕ) → f (take (suc m) l) ≡ f l
-front-answers f x m long l =
-    below-or (suc m) (length l)
-    (λ h. long (take (suc m) l) (omega (arith, length-take (suc m) l)) ∙ sym (long l (omega arith)))
-    (λ h. ap f (take-all (suc m) l h))
+use Rattle.lister_text.proofs.Cases.{below-or}
+use Rattle.lister_text.proofs.Holding.{front-answers}
 
 -- too long a line can't be read
 too-long : (l : List ℕ) → mostDigits < length l → lineOf l ≡ ascii "unreadable\n"

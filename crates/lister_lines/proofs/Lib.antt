@@ -1,12 +1,4 @@
-pub mod Cases
-pub mod Decimal
-pub mod Hex
-pub mod Texts
-pub mod Bound
-pub mod Decoding
 pub mod Kept
 pub mod Blocks
 pub mod Feeds
-pub mod Sample
 pub mod Unique
-pub mod Holding

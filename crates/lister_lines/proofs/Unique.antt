@@ -1,5 +1,5 @@
--- Two outcomes that a contract of this crate allows are equal, but for octets of the unfinished line's buffer behind those that
--- are held, which no call looks at. (`decode` and `has_room` answer by an equation of the answer itself.)
+-- Two outcomes that a contract of the lister allows are equal, but for octets of the unfinished line's buffer behind those that
+-- are held, which no call looks at. (`decode`, `fits` and `has_room` answer by an equation of the answer itself.)
 -- Assumes nothing.
 use mathlib.Core.List.{List}
 use mathlib.Core.Path.{_≡_, sym, _∙_, ap}
@@ -9,7 +9,7 @@ use Rattle.basics.specs.Laid.{Laid}
 use Rattle.lister_lines.specs.declared.Fed.{Fed}
 use Rattle.lister_lines.specs.Feeding.{Left, leftBy}
 
--- `answer` and `finish`: a text is laid in one way
+-- `lay_text`, `lay_decimal`, `answer` and `finish`: a text is laid in one way
 pub one-laid : {d os e f : List ℕ} {at m n : ℕ} → Laid d at os m e → Laid d at os n f → (m ≡ n) × (e ≡ f)
 one-laid k l = (k .behind ∙ sym (l .behind), k .buffer ∙ sym (l .buffer))
 

@@ -1,46 +1,18 @@
 -- The listing piece by piece: an input that is fed in blocks of any size, and an output of limited room that is written out in
 -- between. proofs/Blocks.antt proves that what is said so is the listing of the whole input.
 -- Assumes nothing.
-use mathlib.Core.Bool.{Bool, true, not}
+use mathlib.Core.Bool.{not}
 use mathlib.Core.Path.{_≡_}
 use mathlib.Core.List.{List, [], _∷_, _++_}
 use Prim.Native.Nat.{ℕ, suc, _+_, _-_, _≤_, _<_}
-use lib.Dec.{leb, eqb}
-use lib.ListN.{length, getD, take, drop}
+use lib.Dec.{eqb}
+use lib.ListN.{length, take, drop}
 use lib.Seq.{sets}
-use Rattle.basics.specs.Basics.{if_then_else_, all}
-use Rattle.lister_lines.specs.Listing.{lineFeed, mostDigits, badCount, octetsIn, unreadable, lineOf}
-use Rattle.lister_lines.specs.declared.Decoded.{Decoded}
-use Rattle.lister_lines.specs.declared.Decoded.the-variants.{Octets, Unreadable}
+use Rattle.basics.specs.Basics.{if_then_else_}
+use Rattle.lister_text.specs.Texts.{lineFeed}
+use Rattle.lister_text.specs.Hexadecimal.{mostDigits}
+use Rattle.lister_answers.specs.Answers.{lineOf, roomy}
 use Rattle.lister_lines.specs.declared.Fed.{Fed}
-
--- ---- one line
-
--- how many octets a line says, or that it can't be read
-abbrev pub decodedOf : List ℕ → Decoded
-decodedOf l = if unreadable l then Unreadable else Octets (length (octetsIn l))
-
--- what decoding a line leaves in a frame's buffer: of a right count of characters, the octets before the first that is no digit
-abbrev pub decodedInto : List ℕ → List ℕ → List ℕ
-decodedInto l frame = if badCount (length l) then frame else sets frame 0 (octetsIn l)
-
--- the most octets of an answer
-abbrev pub mostText : ℕ
-mostText = 4096
-
--- an output of that room has room for any answer
-abbrev pub roomy : ℕ → Bool
-roomy room = leb mostText room
-
--- the answer to a line in an output of that room: none where there is no room for any
-abbrev pub answerIn : ℕ → List ℕ → List ℕ
-answerIn room l = if roomy room then lineOf l else []
-
--- what answering a line in an output of that room leaves in a frame's buffer
-abbrev pub frameIn : ℕ → List ℕ → List ℕ → List ℕ
-frameIn room l frame = if roomy room then decodedInto l frame else frame
-
--- ---- blocks
 
 -- the most octets that are kept of an unfinished line: one more than the most digits shows that it is unreadable
 abbrev pub mostHeld : ℕ
@@ -98,18 +70,6 @@ leaving n out at f = record {
 -- what an answer of the code says, with the buffer of the unfinished line and the output
 abbrev pub leftBy : Fed → List ℕ → List ℕ → Left
 leftBy r line out = record { taken = r .taken; held = r .held; line = take (r .held) line; at = r .at; out = out }
-
--- ---- one line of a block
-
--- no line feed is among octets
-abbrev pub unended : List ℕ → Bool
-unended l = all (λ (c : ℕ). not (eqb c lineFeed)) l
-
--- a place of a block: the first line feed stands there, or it is the block's end and there is none
-pub record LineEnd (block : List ℕ) (i : ℕ) : Type 0 where
-  pub within : i ≤ length block
-  pub before : unended (take i block) ≡ true
-  pub there : i < length block → getD block i 0 ≡ lineFeed
 
 -- feeding a block is feeding the part that the code took of it, and then the rest
 pub record Onward (block line out : List ℕ) (held at : ℕ) (r : Fed) (line′ out′ : List ℕ) : Type 0 where

@@ -5,10 +5,9 @@ use mathlib.Core.Path.{_≡_, refl}
 use Prim.Native.Nat.{ℕ, _+_, _-_, _≤_, _<_, min}
 use native.Mathlib.Omega.{arith}
 use borrow.Author.Tests.{leb-true}
-use lib.Dec.{leb}
 use Rattle.basics.specs.Basics.{if_then_else_}
 use Rattle.program_io.specs.declared.Next.{Next}
-use Rattle.program_io.specs.Places.{hasRoom, nextAt, Follows, readsLeft}
+use Rattle.program_io.specs.Places.{hasRoom, Follows, readsLeft}
 
 -- by the test's answer
 fits-by : (size at room : ℕ) (b : Bool) → hasRoom size at room ≡ b → room ≤ size → (if b then min at size else 0) + room ≤ size

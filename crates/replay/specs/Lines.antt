@@ -6,7 +6,7 @@ use Prim.Native.Nat.{ℕ, suc, _+_, _≤_, _<_}
 use lib.Dec.{ltb}
 use lib.ListN.{length, take}
 use Rattle.basics.specs.Basics.{bit}
-use Rattle.lister_lines.specs.Feeding.{LineEnd}
+use Rattle.lister_text.specs.Texts.{LineEnd}
 use Rattle.replay_calls.specs.Bound.{mostLine}
 use Rattle.replay.specs.declared.Part.{Part}
 use Rattle.replay.specs.declared.Turn.{Turn}

@@ -8,22 +8,18 @@ ghost use lib.ListN.{length, take};
 ghost use Rattle.program_io.specs.Places.{Ready};
 ghost use Rattle.replay_calls.specs.Calls.{readCall, frameAfter};
 ghost use Rattle.replay_calls.specs.Bound.{mostLine};
-ghost use Rattle.replay_answers.specs.Answers.{mostText};
+ghost use Rattle.replay_states.specs.Lines.{mostText};
 ghost use Rattle.replay.specs.Lines.{heldOf, Takes, Onward};
 use keeper::RecordArray;
 use keeper::RunArray;
 use keeper::WordArray;
-use replay_answers::MOST_TEXT;
 use replay_calls::Call;
-use replay_calls::FrameBuffer;
-use replay_calls::MOST_FRAME;
 use replay_ends::Played;
 use replay_ends::play_open;
 use replay_ends::play_unreadable;
 use replay_keeper::play_keeper;
 use replay_ledger::play_ledger;
-
-const LINE_FEED: u8 = b'\n';
+use replay_states::MOST_TEXT;
 
 const MOST_HELD: usize = 2044; // of a line: one octet more than the longest call has, which shows that it is none
 
@@ -60,7 +56,7 @@ fn hold(part: &[u8], line: &mut Line, held: usize) -> usize
     requires { ⌜ held ≤ suc mostLine ⌝ }
     ensures { λ r. ⌜ (r ≤ suc mostLine) × (take r (now (line .exit)) ≡ heldOf (take held (now (line .entry)) ++ now (part .entry))) ⌝ }
 {
-    lister_lines::lay_text(basics::front(part, MOST_HELD - held), line, held)
+    lister_text::lay_text(basics::front(part, MOST_HELD - held), line, held)
 }
 
 // Takes the octets of a block through its first line feed, or all.
@@ -68,7 +64,7 @@ fn take_line(block: &[u8], line: &mut Line, held: usize) -> Part
     requires { ⌜ (0 < length (now block)) × (held ≤ suc mostLine) ⌝ }
     ensures { λ r. ⌜ Takes (now (block .entry)) (take held (now (line .entry))) r (take (r .held) (now (line .exit))) ⌝ }
 {
-    let end = lister_lines::line_end(block);
+    let end = lister_text::line_end(block);
     let held = hold(basics::front(block, end), line, held);
     if end < block.len() {
         return Part {
@@ -85,7 +81,7 @@ fn take_line(block: &[u8], line: &mut Line, held: usize) -> Part
 }
 
 // The call that the line says which is held.
-fn held_call(line: &[u8], held: usize, frame: &mut FrameBuffer) -> Call
+fn held_call(line: &[u8], held: usize, frame: &mut frame_layout::FrameArray) -> Call
     ensures { λ r. ⌜ (r ≡ readCall (take held (now (line .entry)))) × (now (frame .exit) ≡ frameAfter (take held (now (line .entry))) (now (frame .entry))) ⌝ }
 {
     replay_calls::read_call(basics::front(line, held), frame)
@@ -183,7 +179,7 @@ fn read_on(block: &mut [u8], held: usize) -> Block
             more: false,
         };
     }
-    block[0] = LINE_FEED;
+    block[0] = lister_text::LINE_FEED;
     Block {
         count: 1,
         more: false,
@@ -259,8 +255,8 @@ fn play_all(block: &mut [u8], line: &mut Line, out: &mut [u8])
 }
 
 // A buffer for a frame to accept.
-fn empty_frame() -> FrameBuffer {
-    [0; MOST_FRAME]
+fn empty_frame() -> frame_layout::FrameArray {
+    [0; frame_layout::MOST_OCTETS]
 }
 
 // A buffer for an unfinished line.

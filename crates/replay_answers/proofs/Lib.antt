@@ -1,4 +1,1 @@
-pub mod Putting
-pub mod Joining
 pub mod Hexadecimal
-pub mod Shown

@@ -9,9 +9,9 @@ use lib.Dec.{eqb}
 use lib.ListN.{length, drop}
 use borrow.Author.Tests.{eqb-true}
 use Rattle.basics.specs.Basics.{if_then_else_, _and_, _or_, all}
-use Rattle.lister_lines.specs.Listing.{tab, digitOf, isDigit, badCount, octetsIn}
-use Rattle.lister_lines.specs.Feeding.{decodedOf, decodedInto}
-use Rattle.lister_lines.specs.declared.Decoded as D
+use Rattle.lister_text.specs.Texts.{tab}
+use Rattle.lister_text.specs.Hexadecimal.{digitOf, isDigit, badCount, octetsIn, decodedOf, decodedInto}
+use Rattle.lister_text.specs.declared.Decoded as D
 use Rattle.replay_calls.specs.declared.Call.the-variants.{Unreadable}
 use Rattle.replay_calls.specs.Calls.{fieldsIn, firstField, tabbedFields, framed, acceptOf, decodedBehind}
 use Rattle.replay_calls.proofs.Fields.{fields-split}

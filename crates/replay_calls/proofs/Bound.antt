@@ -1,7 +1,7 @@
 -- No line over 2,043 octets is a call: a word, a number and a frame each have a longest.
 -- Assumes nothing.
 use mathlib.Core.Path.{_≡_, refl, sym, _∙_, ap}
-use mathlib.Core.Bool.{true, false}
+use mathlib.Core.Bool.{false}
 use mathlib.Core.List.{List, [], _∷_}
 use mathlib.Core.Option.{Option, none, some}
 use Prim.Native.Nat.{ℕ, suc, _+_, _*_, _≤_, _<_}
@@ -9,9 +9,10 @@ use native.Mathlib.Omega.{arith}
 use lib.Dec.{eqb}
 use lib.ListN.{length, drop}
 use borrow.Author.Tests.{lt-ltb, lt-leb}
-use Rattle.lister_lines.specs.Listing.{ascii, tab, digitOf}
-use Rattle.lister_lines.proofs.Cases.{true-or, below-or}
-use Rattle.lister_lines.proofs.Kept.{front-answers}
+use Rattle.lister_text.specs.Texts.{ascii, tab}
+use Rattle.lister_text.specs.Hexadecimal.{digitOf}
+use Rattle.lister_text.proofs.Cases.{true-or, below-or}
+use Rattle.lister_text.proofs.Holding.{front-answers}
 use Rattle.replay_calls.specs.declared.Number as N
 use Rattle.replay_calls.specs.declared.Call.the-variants.{Unreadable}
 use Rattle.replay_calls.specs.Calls.{fieldsIn, firstField, tabbedFields, numberOf, before, numbersOf, same, callWith, acceptOf, callBy, callIn, readCall}

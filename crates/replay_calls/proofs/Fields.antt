@@ -11,7 +11,7 @@ use borrow.Author.Tests.{eq-eqb, ne-eqb}
 use lib.Dec.{eqb}
 use lib.ListN.{length, getD, take, drop}
 use lib.Seq.{drop-cons}
-use Rattle.lister_lines.specs.Listing.{tab, onto}
+use Rattle.lister_text.specs.Texts.{tab, onto}
 use Rattle.replay_calls.specs.Calls.{fieldsIn, firstField, tabbedFields}
 
 -- its fields

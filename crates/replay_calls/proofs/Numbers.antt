@@ -11,7 +11,7 @@ use lib.ListN.{length, getD, drop}
 use Rattle.replay_calls.proofs.Fields.{split}
 use borrow.Author.Tests.{lt-ltb, le-ltb, leb-true, eq-eqb, ne-eqb}
 use Rattle.basics.proofs.Choices.{and-true}
-use Rattle.basics.specs.Basics.{if_then_else_, _and_, _or_, all}
+use Rattle.basics.specs.Basics.{if_then_else_, _or_, all}
 use Rattle.replay_calls.specs.Calls.{isDecimal, decimalOf, valueOf, mostNumber, noNumber, numberOf}
 use Rattle.replay_calls.specs.declared.Number.the-variants.{Value, Unreadable}
 

@@ -6,7 +6,6 @@ use mathlib.Core.List.{List, [], _∷_}
 use Prim.Native.Nat.{ℕ}
 use lib.Dec.{eqb}
 use borrow.Author.Tests.{eq-eqb, eqb-true}
-use Rattle.basics.specs.Basics.{_and_}
 use Rattle.basics.proofs.Choices.{and-true}
 use Rattle.replay_calls.specs.Calls.{same}
 

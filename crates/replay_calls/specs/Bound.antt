@@ -5,7 +5,8 @@ use mathlib.Core.List.{List, _++_}
 use Prim.Native.Nat.{ℕ, suc, _<_}
 use Prim.Native.Char.{code}
 use lib.ListN.{length, take, replicate}
-use Rattle.lister_lines.specs.Listing.{ascii, mostDigits}
+use Rattle.lister_text.specs.Texts.{ascii}
+use Rattle.lister_text.specs.Hexadecimal.{mostDigits}
 use Rattle.replay_calls.specs.declared.Call.the-variants.{Ledger, Unreadable}
 use Rattle.replay_calls.specs.declared.LedgerCall.the-variants.{Accept}
 use Rattle.replay_calls.specs.Calls.{readCall}

@@ -9,9 +9,9 @@ use Prim.Native.Char.{code}
 use lib.Dec.{ltb, leb, eqb}
 use lib.ListN.{length, take, drop}
 use Rattle.basics.specs.Basics.{if_then_else_, _and_, _or_, all}
-use Rattle.lister_lines.specs.Listing.{ascii, tab, onto}
-use Rattle.lister_lines.specs.Feeding.{decodedOf, decodedInto}
-use Rattle.lister_lines.specs.declared.Decoded as D
+use Rattle.lister_text.specs.Texts.{ascii, tab, onto}
+use Rattle.lister_text.specs.Hexadecimal.{decodedOf, decodedInto}
+use Rattle.lister_text.specs.declared.Decoded as D
 use Rattle.replay_calls.specs.declared.Number as N
 use Rattle.replay_calls.specs.declared.Call.{Call}
 use Rattle.replay_calls.specs.declared.Call.the-variants.{Open, Keeper, Ledger, Unreadable}

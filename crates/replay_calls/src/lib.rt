@@ -2,20 +2,14 @@
 ghost use mathlib.Core.Path.{_≡_};
 ghost use mathlib.Core.List.{[], _∷_};
 ghost use mathlib.Core.Option.{some};
-ghost use Prim.Native.Nat.{_+_, _-_, _≤_, _<_};
-ghost use lib.ListN.{length, take};
+ghost use Prim.Native.Nat.{_+_, _-_, _<_};
+ghost use lib.ListN.{length};
 ghost use Rattle.replay_calls.specs.Calls.{same as «sameOf», firstField, tabbedFields, decimalOf, numberOf, numbersOf, few, heldIn, statusOf, callWith, acceptOf, callBy, readCall, decodedBehind, frameBy, frameAfter};
-
-const TAB: u8 = b'\t';
+use frame_layout::FrameArray;
 
 const MOST_NUMBER: u64 = 4294967295;
 
 pub const MOST_ROOM: usize = 2048; // of a buffer that is lent to a status
-
-pub const MOST_FRAME: usize = 1018; // the octets of the longest frame
-
-// A buffer for the frame to accept.
-pub type FrameBuffer = [u8; MOST_FRAME];
 
 // What a field says: a number, or nothing that can be read.
 enum Number {
@@ -78,7 +72,7 @@ fn field_end(octets: &[u8]) -> usize
 {
     let mut i = 0;
     while i < octets.len() {
-        if octets[i] == TAB {
+        if octets[i] == lister_text::TAB {
             return i;
         }
         i += 1;
@@ -255,20 +249,20 @@ fn numbered_call(word: &[u8], values: &[u32], count: usize) -> Call
 }
 
 // The frame to accept, in the one field that has a tab before it. A tab is no digit.
-fn accept_call(fields: &[u8], frame: &mut FrameBuffer) -> Call
+fn accept_call(fields: &[u8], frame: &mut FrameArray) -> Call
     ensures { λ r. ⌜ (r ≡ acceptOf (tabbedFields (now (fields .entry)))) × (now (frame .exit) ≡ decodedBehind (now (fields .entry)) (now (frame .entry))) ⌝ }
 {
     if fields.len() == 0 {
         return Call::Unreadable;
     }
-    match lister_lines::decode(&fields[1..], frame) {
-        lister_lines::Decoded::Octets(n) => Call::Ledger(LedgerCall::Accept(n)),
-        lister_lines::Decoded::Unreadable => Call::Unreadable,
+    match lister_text::decode(&fields[1..], frame) {
+        lister_text::Decoded::Octets(n) => Call::Ledger(LedgerCall::Accept(n)),
+        lister_text::Decoded::Unreadable => Call::Unreadable,
     }
 }
 
 // The call that a word and the fields behind it, each with a tab before it, say.
-fn call_of(word: &[u8], fields: &[u8], frame: &mut FrameBuffer) -> Call
+fn call_of(word: &[u8], fields: &[u8], frame: &mut FrameArray) -> Call
     ensures { λ r. ⌜ (r ≡ callBy (now (word .entry)) (tabbedFields (now (fields .entry)))) × (now (frame .exit) ≡ frameBy (now (word .entry)) (now (fields .entry)) (now (frame .entry))) ⌝ }
 {
     if same(word, b"accept") {
@@ -280,7 +274,7 @@ fn call_of(word: &[u8], fields: &[u8], frame: &mut FrameBuffer) -> Call
 }
 
 // Reads a line: its word, and the fields behind it.
-pub fn read_call(line: &[u8], frame: &mut FrameBuffer) -> Call
+pub fn read_call(line: &[u8], frame: &mut FrameArray) -> Call
     ensures { λ r. ⌜ (r ≡ readCall (now (line .entry))) × (now (frame .exit) ≡ frameAfter (now (line .entry)) (now (frame .entry))) ⌝ }
 {
     let end = field_end(line);

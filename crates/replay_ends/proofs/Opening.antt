@@ -16,8 +16,9 @@ use Rattle.keeper.specs.declared.Opened.the-variants.{Done, Refused}
 use Rattle.ledger.specs.View as L
 use Rattle.ledger.specs.declared.Opened as O
 use Rattle.replay_answers.specs.declared.Answer as A
-use Rattle.replay_answers.specs.Answers.{answerFields, lineWith, Said}
-use Rattle.replay_ends.specs.Playing.{Ends, endsOf, opening, Plays}
+use Rattle.replay_states.specs.Lines.{lineWith, Said}
+use Rattle.replay_answers.specs.Answers.{answerFields}
+use Rattle.replay_ends.specs.Playing.{endsOf, opening, Plays}
 
 -- a call that was refused is none that was done
 never-done : {A : Type 0} (n : ℕ) (a : A) → _≡_ {A = Outcome A} (refused n) (done a) → ⊥

@@ -15,7 +15,7 @@ use Rattle.replay_calls.specs.declared.Call as C
 use Rattle.replay_calls.specs.declared.KeeperCall.{KeeperCall}
 use Rattle.replay_calls.specs.declared.LedgerCall.{LedgerCall}
 use Rattle.replay_answers.specs.declared.Answer.the-variants.{Unopened}
-use Rattle.replay_answers.specs.Answers.{mostText, Said}
+use Rattle.replay_states.specs.Lines.{mostText, Said}
 use Rattle.replay_ends.specs.Steps.{Step, answered, playKeeper, playLedger}
 use Rattle.replay_ends.specs.Playing.{Ends, endsOf, withKeeper, withLedger, inPlace, needsOpen, Played, laying, play, playInto, Plays}
 

@@ -13,7 +13,7 @@ use Rattle.bearer.specs.Ledger as master
 use Rattle.replay_calls.specs.declared.Call.{Call}
 use Rattle.replay_calls.specs.declared.Call.the-variants.{Open, Keeper, Ledger, Unreadable}
 use Rattle.replay_answers.specs.declared.Answer as A
-use Rattle.replay_answers.specs.Answers.{mostText, Said}
+use Rattle.replay_states.specs.Lines.{mostText, Said}
 use Rattle.replay_ends.specs.Steps.{Step, answered, playKeeper, playLedger}
 
 -- both ends of the bearer, and whether an open of them was accepted

@@ -12,7 +12,9 @@ use Rattle.replay_calls.specs.declared.KeeperCall as K
 use Rattle.replay_calls.specs.declared.LedgerCall as L
 use Rattle.replay_answers.specs.declared.Answer.{Answer}
 use Rattle.replay_answers.specs.declared.Answer as A
-use Rattle.replay_answers.specs.Answers.{answerFields, frameFields, keeperFields, ledgerFields, lineWith}
+use Rattle.replay_states.specs.Lines.{lineWith}
+use Rattle.replay_states.specs.States.{keeperFields, ledgerFields}
+use Rattle.replay_answers.specs.Answers.{answerFields, frameFields}
 
 -- what a call leaves: a state, and the line that answers it
 pub record Step (S : Type 0) : Type 0 where

@@ -67,7 +67,7 @@ pub fn play_open(
         ≡ playInto (endsOf (p .opened) (keeperIn (now (numbers .entry)) (now (pdcps .entry)) (now (marks .entry)) (now (starts .entry)) (now (ends .entry)) (now (words .entry))) (ledgerIn (p .ledger))) (Open o) frame (now (out .entry)) (p .at)) ⌝ }
     ensures { λ r. ⌜ (p .at ≤ length (now (out .entry)) → r .at ≤ length (now (out .entry))) ⌝ }
 {
-    if !replay_answers::has_room(out.len(), p.at) {
+    if !replay_states::has_room(out.len(), p.at) {
         return p;
     }
     let answer = keeper::open(

@@ -4,7 +4,9 @@ use mathlib.Core.List.{List}
 use Prim.Native.Nat.{ℕ}
 use lib.ListN.{take}
 use Rattle.bearer.specs.Keeper.{Keeper}
-use Rattle.replay_answers.specs.Answers.{answerFields, frameFields, keeperFields, lineWith}
+use Rattle.replay_states.specs.Lines.{lineWith}
+use Rattle.replay_states.specs.States.{keeperFields}
+use Rattle.replay_answers.specs.Answers.{answerFields, frameFields}
 use Rattle.replay_ends.specs.Steps.{Step}
 use Rattle.replay_keeper.specs.declared.Line as L
 

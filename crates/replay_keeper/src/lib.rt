@@ -5,12 +5,12 @@ ghost use Prim.Native.Nat.{ℕ, _≤_};
 ghost use lib.ListN.{length, replicate};
 ghost use Rattle.bearer.specs.Keeper.{«Keeper» as «Secondary»};
 ghost use Rattle.bearer.specs.Ledger.{«Ledger» as «Master»};
-ghost use Rattle.bearer.proofs.Answers.Reported.{Within};
+ghost use Rattle.frame_layout.specs.Frames.{Within};
 ghost use Rattle.keeper.specs.View.{keeperIn, countedAs, confirmedAs, reportedAs};
 ghost use Rattle.replay_calls.specs.Calls.{mostRoom};
 ghost use Rattle.replay_calls.specs.declared.Call.the-variants.{Keeper};
 ghost use Rattle.replay_calls.specs.declared.KeeperCall.the-variants.{Status};
-ghost use Rattle.replay_answers.specs.Answers.{Said};
+ghost use Rattle.replay_states.specs.Lines.{Said};
 ghost use Rattle.replay_ends.specs.Steps.{okAnswer, following, reporting, playKeeper};
 ghost use Rattle.replay_ends.specs.Playing.{endsOf, playInto};
 ghost use Rattle.replay_keeper.specs.Lines.{lineOf, leaving};
@@ -142,7 +142,7 @@ fn lay(
     match line {
         Line::Answer(answer) => replay_answers::lay_answer(answer, out, at),
         Line::Frame(n) => replay_answers::lay_frame(buffer, n, out, at),
-        Line::Shown => replay_answers::lay_keeper(
+        Line::Shown => replay_states::lay_keeper(
             numbers,
             pdcps,
             marks,
@@ -182,7 +182,7 @@ pub fn play_keeper(
     if !opened {
         return replay_answers::lay_answer(Answer::Unopened, out, at);
     }
-    if !replay_answers::has_room(out.len(), at) {
+    if !replay_states::has_room(out.len(), at) {
         return at;
     }
     let mut frame = empty_buffer();

@@ -3,7 +3,9 @@
 use mathlib.Core.List.{List}
 use Prim.Native.Nat.{ℕ}
 use Rattle.bearer.specs.Ledger.{Ledger}
-use Rattle.replay_answers.specs.Answers.{answerFields, ledgerFields, lineWith}
+use Rattle.replay_states.specs.Lines.{lineWith}
+use Rattle.replay_states.specs.States.{ledgerFields}
+use Rattle.replay_answers.specs.Answers.{answerFields}
 use Rattle.replay_ends.specs.Steps.{Step}
 use Rattle.replay_ledger.specs.declared.Line as L
 

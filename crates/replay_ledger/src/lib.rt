@@ -6,7 +6,7 @@ ghost use Rattle.bearer.specs.Keeper.{«Keeper» as «Secondary»};
 ghost use Rattle.bearer.specs.Ledger.{«Ledger» as «Master»};
 ghost use Rattle.ledger.specs.View.{ledgerIn, sentAs, acceptedAs, takenAs, beside};
 ghost use Rattle.replay_calls.specs.declared.Call.the-variants.{Ledger as «OnLedger»};
-ghost use Rattle.replay_answers.specs.Answers.{Said};
+ghost use Rattle.replay_states.specs.Lines.{Said};
 ghost use Rattle.replay_ends.specs.Steps.{freedAnswer, takenAnswer, following, playLedger};
 ghost use Rattle.replay_ends.specs.Playing.{endsOf, playInto};
 ghost use Rattle.replay_ledger.specs.Lines.{lineOf, leaving};
@@ -15,7 +15,6 @@ use ledger::Ledger;
 use ledger::Sent;
 use ledger::Taken;
 use replay_answers::Answer;
-use replay_calls::FrameBuffer;
 use replay_calls::LedgerCall;
 use replay_ends::Played;
 
@@ -114,12 +113,17 @@ fn lay(line: Line, l: Ledger, out: &mut [u8], at: usize) -> usize
 {
     match line {
         Line::Answer(answer) => replay_answers::lay_answer(answer, out, at),
-        Line::Shown => replay_answers::lay_ledger(l, out, at),
+        Line::Shown => replay_states::lay_ledger(l, out, at),
     }
 }
 
 // A call on the master, and the line of its answer. Without room for any line nothing changes.
-pub fn play_ledger(call: LedgerCall, frame: &FrameBuffer, out: &mut [u8], p: Played) -> Played
+pub fn play_ledger(
+    call: LedgerCall,
+    frame: &frame_layout::FrameArray,
+    out: &mut [u8],
+    p: Played,
+) -> Played
     ensures { λ r. ⌜ ((k : «Secondary») → record { ends = endsOf (r .opened) k (ledgerIn (r .ledger)); out = now (out .exit); at = r .at }
         ≡ playInto (endsOf (p .opened) k (ledgerIn (p .ledger))) («OnLedger» call) (now (frame .entry)) (now (out .entry)) (p .at)) ⌝ }
     ensures { λ r. ⌜ (p .at ≤ length (now (out .entry)) → r .at ≤ length (now (out .entry))) ⌝ }
@@ -132,7 +136,7 @@ pub fn play_ledger(call: LedgerCall, frame: &FrameBuffer, out: &mut [u8], p: Pla
             ledger: l,
         };
     }
-    if !replay_answers::has_room(out.len(), p.at) {
+    if !replay_states::has_room(out.len(), p.at) {
         return p;
     }
     let s = step(call, frame, l);

@@ -11,10 +11,9 @@ use lib.ListN.{length, take, drop, length-append}
 use lib.Seq.{take-append-seam}
 use Rattle.basics.specs.Basics.{if_then_else_, _and_, done, isDone}
 use Rattle.basics.proofs.Choices.{contrary, done-one, never-done}
-use Rattle.frame_layout.specs.Frames.{Status, Written, mostRanges, statusOctets, writeStatus}
+use Rattle.frame_layout.specs.Frames.{Status, Written, Within, mostRanges, statusOctets, writeStatus}
 use Rattle.frame_layout.proofs.Within.{Leaves, refuses as not-written, writes, status-leaves}
 use Rattle.bearer.specs.Keeper as K
-pub use Rattle.frame_layout.proofs.Within.{Within}
 
 -- what a status s leaves
 pub data Reports (k : K.Keeper) (s : Status) (final : Bool) (buffer : List ℕ) : K.Reported → Type 0 where

@@ -5,9 +5,9 @@ use borrow.Author.Needs.{needs}
 use Rattle.bearer.specs.Bearer.{refusing}
 use Rattle.bearer.specs.Keeper.{Keeper, arrive}
 use Rattle.keeper_judge.specs.declared.Arrival.{Arrival}
-use Rattle.keeper_judge.specs.declared.Words.{Words}
+use Rattle.keeper_state.specs.declared.Words.{Words}
 use Rattle.keeper_judge.specs.declared.Plan.{Plan}
-use Rattle.keeper_judge.specs.State.{stateIn, Fronts}
+use Rattle.keeper_state.specs.State.{stateIn, Fronts}
 use Rattle.keeper_judge.specs.Judgements.{JudgesArrival, AcceptsArrival}
 use Rattle.keeper.specs.View.{wordsIn}
 use Rattle.keeper.proofs.Changed.{losing, arrived}

@@ -4,9 +4,9 @@ use borrow.Author.Needs.{needs}
 use Rattle.frame_writer.specs.declared.Wrote.{Wrote}
 use Rattle.frame_writer.specs.Answers.{left}
 use Rattle.bearer.specs.Keeper.{Keeper, reportedAs, status}
-use Rattle.keeper_judge.specs.declared.Report.{Report}
-use Rattle.keeper_judge.specs.State.{stateIn}
-use Rattle.keeper_judge.specs.Judgements.{JudgesStatus, AcceptsStatus}
+use Rattle.keeper_report.specs.declared.Report.{Report}
+use Rattle.keeper_state.specs.State.{stateIn}
+use Rattle.keeper_report.specs.Reports.{JudgesStatus, AcceptsStatus}
 use Rattle.keeper.proofs.Changed.{answered}
 use Rattle.keeper.proofs.build.Statement.{statement}
 use Rattle.keeper.proofs.build.Tie as tie

@@ -1,5 +1,5 @@
 -- `confirm`: the mark of the record that was found is set; a refused confirm changes no array. Assumes nothing.
-use mathlib.Core.Path.{_≡_, refl, sym, _∙_, ap, subst}
+use mathlib.Core.Path.{_≡_, refl, sym, subst}
 use mathlib.Core.List.{List}
 use Prim.Native.Nat.{ℕ, _<_}
 use native.Mathlib.Omega.{arith}
@@ -7,10 +7,10 @@ use borrow.Author.Needs.{needs}
 use lib.ListN.{set}
 use Rattle.bearer.specs.Bearer.{refusing, answering, mostRecords}
 use Rattle.bearer.specs.Keeper.{Keeper, confirm}
-use Rattle.keeper_judge.specs.declared.Found.{Found}
-use Rattle.keeper_judge.specs.declared.Words.{Words}
-use Rattle.keeper_judge.specs.State.{stateIn}
-use Rattle.keeper_judge.specs.Judgements.{JudgesConfirm, AcceptsConfirm}
+use Rattle.keeper_report.specs.declared.Found.{Found}
+use Rattle.keeper_state.specs.declared.Words.{Words}
+use Rattle.keeper_state.specs.State.{stateIn}
+use Rattle.keeper_report.specs.Reports.{JudgesConfirm, AcceptsConfirm}
 use Rattle.keeper.proofs.Changed.{marked-within, confirmed}
 use Rattle.keeper.proofs.Unique.{confirmed-not}
 use Rattle.keeper.proofs.confirm.Statement.{statement}

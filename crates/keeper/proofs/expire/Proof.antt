@@ -4,8 +4,8 @@ use borrow.Author.Needs.{needs}
 use Rattle.bearer.specs.Bearer.{refusing}
 use Rattle.bearer.specs.Keeper.{Keeper, expire}
 use Rattle.keeper_judge.specs.declared.Expiry.{Expiry}
-use Rattle.keeper_judge.specs.declared.Words.{Words}
-use Rattle.keeper_judge.specs.State.{stateIn, Fronts}
+use Rattle.keeper_state.specs.declared.Words.{Words}
+use Rattle.keeper_state.specs.State.{stateIn, Fronts}
 use Rattle.keeper_judge.specs.Judgements.{JudgesExpiry, AcceptsExpiry}
 use Rattle.keeper.specs.View.{wordsIn}
 use Rattle.keeper.proofs.Changed.{losing, expired}

@@ -2,7 +2,7 @@
 use mathlib.Core.Path.{_∙_, ap}
 use Prim.Native.Nat.{ℕ}
 use borrow.Author.Needs.{needs}
-use Rattle.keeper_judge.specs.State.{_saying-reported_}
+use Rattle.keeper_state.specs.State.{_saying-reported_}
 use Rattle.keeper.specs.View.{freshWords}
 use Rattle.keeper.proofs.Lengths.{before-one}
 use Rattle.keeper.proofs.fresh.Statement.{statement}

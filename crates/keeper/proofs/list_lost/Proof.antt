@@ -5,7 +5,7 @@ use lib.ListN.{take}
 use Rattle.circle.specs.Lengths.{modulus}
 use Rattle.frame_layout.specs.Frames.{rangesOf}
 use Rattle.bearer.specs.Bearer.{mostRecords}
-use Rattle.keeper_judge.specs.State.{modulusIn, heldIn}
+use Rattle.keeper_state.specs.State.{modulusIn, heldIn}
 use Rattle.keeper.proofs.Parts.{take-most}
 use Rattle.keeper.proofs.Listing.{lists-of, runs-of}
 use borrow.Author.Needs.{needs}

@@ -1,15 +1,14 @@
 -- `open`: the tests are the machine's, in its order; a refused open changes no array. Assumes nothing.
 use mathlib.Core.Path.{_≡_, refl, sym, _∙_, ap}
-use mathlib.Core.Bool.{Bool, true}
+use mathlib.Core.Bool.{true}
 use mathlib.Core.List.{List}
-use Prim.Native.Nat.{ℕ, _<_, _≤_}
+use Prim.Native.Nat.{ℕ, _<_}
 use native.Mathlib.Omega.{arith}
 use borrow.Author.Needs.{needs}
 use borrow.Author.Tests.{not-true, not-false}
 use Rattle.circle.specs.Lengths.{modulus, isLength, isLong, pdcps, lengthIn}
 use Rattle.bearer.specs.Bearer.{answering}
 use Rattle.bearer.specs.Keeper.{Keeper}
-use Rattle.keeper_judge.specs.declared.Words.{Words}
 use Rattle.keeper.specs.View.{wordsOf, keeperIn}
 use Rattle.keeper.proofs.Opening.{bad-length, bad-first, bad-f, opened}
 use Rattle.keeper.proofs.Unique.{opened-not}

@@ -1,7 +1,7 @@
 -- `put_in`: among the numbers held the new one stands at its place; past them nothing counts. Assumes nothing.
 use lib.Seq.{length-take-le}
 use Rattle.keeper.proofs.Parts.{put-in}
-use Prim.Native.Nat.{_+_, _-_}
+use Prim.Native.Nat.{_+_}
 use native.Mathlib.Omega.{arith}
 use mathlib.Core.Path.{sym}
 use borrow.Author.Needs.{needs}

@@ -2,7 +2,7 @@
 use mathlib.Core.Path.{ap}
 use Prim.Native.Nat.{ℕ}
 use borrow.Author.Needs.{needs}
-use Rattle.keeper_judge.specs.State.{_saying-reported_, _saying-closed_, _saying-runs_, _saying-records_}
+use Rattle.keeper_state.specs.State.{_saying-reported_, _saying-closed_, _saying-runs_, _saying-records_}
 use Rattle.keeper.proofs.reported.Statement.{statement}
 use Rattle.keeper.proofs.reported.Tie as tie
 

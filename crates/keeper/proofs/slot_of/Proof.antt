@@ -1,6 +1,4 @@
 -- `slot_of`: one before, where the first new run joins. Assumes nothing.
-use mathlib.Core.Path.{_≡_, sym, _∙_}
-use Prim.Native.Nat.{_≤_}
 use native.Mathlib.Omega.{arith}
 use Rattle.keeper.proofs.slot_of.Statement.{statement}
 use Rattle.keeper.proofs.slot_of.Tie as tie

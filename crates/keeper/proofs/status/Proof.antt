@@ -4,11 +4,10 @@ use mathlib.Core.List.{List}
 use Prim.Native.Nat.{ℕ}
 use borrow.Author.Needs.{needs}
 use Rattle.bearer.specs.Keeper.{Keeper, unreported, status}
-use Rattle.keeper_judge.specs.declared.Words.{Words}
-use Rattle.keeper_judge.specs.declared.Gone.{Gone}
-use Rattle.keeper_judge.specs.State.{stateIn}
+use Rattle.keeper_state.specs.declared.Words.{Words}
+use Rattle.keeper_report.specs.declared.Gone.{Gone}
+use Rattle.keeper_state.specs.State.{stateIn}
 use Rattle.keeper.specs.declared.Built.{Built}
-use Rattle.keeper.specs.View.{wordsIn}
 use Rattle.keeper.specs.Steps.{BuildsFrame, Builds}
 use Rattle.keeper.proofs.Changed.{gone-within, reported}
 use Rattle.keeper.proofs.Unique.{octets-not}

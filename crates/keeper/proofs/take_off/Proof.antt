@@ -1,7 +1,6 @@
 -- `take_off`: among the numbers held the first k are gone; past them nothing counts. Assumes nothing.
 use lib.Seq.{length-take-le}
 use Rattle.keeper.proofs.Parts.{taken-off}
-use Prim.Native.Nat.{_-_}
 use native.Mathlib.Omega.{arith}
 use mathlib.Core.Path.{sym}
 use borrow.Author.Needs.{needs}

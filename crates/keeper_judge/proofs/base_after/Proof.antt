@@ -4,7 +4,6 @@ use borrow.Author.Tests.{eq-eqb, ne-eqb}
 use Rattle.circle.specs.Lengths.{modulus}
 use Rattle.bearer.specs.Losses.{offsets, lowest}
 use Rattle.keeper_loss.proofs.Gaps.{lowest-snoc}
-use Prim.Native.Nat.{_-_}
 use mathlib.Core.Path.{_≡_, sym, _∙_}
 use borrow.Author.Needs.{needs}
 use Rattle.keeper_judge.proofs.base_after.Statement.{statement}

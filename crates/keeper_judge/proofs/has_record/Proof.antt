@@ -1,6 +1,5 @@
 -- `has_record`: the record in front of the place, where there is one. Assumes nothing.
 use Rattle.keeper_judge.proofs.Numbers.{bears-at}
-use Prim.Native.Nat.{_-_}
 use native.Mathlib.Omega.{arith}
 use mathlib.Core.Path.{sym}
 use borrow.Author.Needs.{needs}

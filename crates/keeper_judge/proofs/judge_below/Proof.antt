@@ -1,8 +1,7 @@
 -- `judge_below`: the tests are the machine's, in its order; what an accepted expiry changes is what the machine changes. Assumes nothing.
-use mathlib.Core.Path.{_≡_, sym, _∙_, ap}
-use mathlib.Core.Bool.{Bool}
+use mathlib.Core.Path.{_≡_, _∙_, ap}
 use mathlib.Core.List.{List}
-use Prim.Native.Nat.{ℕ, _-_, _≤_, _<_}
+use Prim.Native.Nat.{ℕ, _≤_}
 use native.Mathlib.Omega.{arith}
 use borrow.Author.Needs.{needs}
 use lib.ListN.{length, drop}
@@ -11,10 +10,10 @@ use Rattle.circle.proofs.Forms.{modulus-bounds}
 use Rattle.frame_layout.specs.Frames.{Range, rangesOf, endsOf}
 use Rattle.bearer.specs.Losses.{topOf, offsets, raisedBase}
 use Rattle.keeper_loss.proofs.Ends.{top-below}
-use Rattle.keeper_judge.specs.State.{modulusIn}
+use Rattle.keeper_state.specs.State.{modulusIn}
 use Rattle.keeper_judge.specs.Judgements.{Losing}
 use Rattle.keeper_judge.proofs.Numbers.{rest-part}
-use Rattle.keeper_judge.proofs.Ranges.{ends-own}
+use Rattle.keeper_state.proofs.Ranges.{ends-own}
 use Rattle.keeper_judge.proofs.Expiring.{closed-expiry, no-gap, many-below, accepted-below}
 use Rattle.keeper_judge.proofs.judge_below.Statement.{statement}
 use Rattle.keeper_judge.proofs.judge_below.Tie as tie

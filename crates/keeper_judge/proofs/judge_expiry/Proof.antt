@@ -1,8 +1,8 @@
 -- `judge_expiry`: what is held and listed is judged, as much as the words say. Assumes nothing.
 use mathlib.Core.Path.{sym, _∙_}
 use borrow.Author.Needs.{needs}
-use Rattle.keeper_judge.specs.State.{stateIn}
-use Rattle.keeper_judge.proofs.Fronts.{fronts, numbers-are, ends-are}
+use Rattle.keeper_state.specs.State.{stateIn}
+use Rattle.keeper_state.proofs.Fronts.{fronts, numbers-are, ends-are}
 use Rattle.keeper_judge.proofs.judge_expiry.Statement.{statement}
 use Rattle.keeper_judge.proofs.judge_expiry.Tie as tie
 

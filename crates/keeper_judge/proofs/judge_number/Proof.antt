@@ -1,8 +1,7 @@
 -- `judge_number`: the tests are the machine's, in its order, and then its place. Assumes nothing.
 use mathlib.Core.Path.{_≡_, sym, _∙_, ap, subst}
 use mathlib.Core.Bool.{Bool}
-use mathlib.Core.List.{List}
-use Prim.Native.Nat.{ℕ, _/_, _≤_, _<_}
+use Prim.Native.Nat.{ℕ, _/_, _<_}
 use native.Mathlib.Omega.{arith}
 use borrow.Author.Needs.{needs}
 use Rattle.circle.specs.Circle.{forward}
@@ -10,7 +9,7 @@ use Rattle.circle.specs.Lengths.{modulus, pdcps, lengthIn}
 use Rattle.circle.proofs.Forms.{modulus-bounds, distance-below}
 use Rattle.bearer.specs.Bearer.{After}
 use Rattle.bearer.specs.Keeper.{Keeper}
-use Rattle.keeper_judge.specs.State.{modulusIn, stateOf}
+use Rattle.keeper_state.specs.State.{modulusIn, stateOf}
 use Rattle.keeper_judge.specs.Judgements.{ArrivalIs}
 use Rattle.keeper_judge.proofs.Arriving.{closed-arrival, bad-number, bad-pdcp, late, on-time}
 use Rattle.keeper_judge.proofs.judge_number.Statement.{statement}

@@ -9,7 +9,7 @@ use borrow.Author.Needs.{needs}
 use Rattle.circle.specs.Circle.{forward}
 use Rattle.frame_layout.specs.Frames.{Range, startsOf, endsOf}
 use Rattle.circle.specs.Lengths.{modulus}
-use Rattle.bearer.specs.Losses.{Gap, gap, offsets, gaps, runsOf}
+use Rattle.bearer.specs.Losses.{Gap, offsets, gaps, runsOf}
 use Rattle.keeper_loss.specs.Tally.{gapEnd, pastOf}
 use Rattle.keeper_loss.proofs.Gaps.{sets-out, gap-count, listed-here}
 use Rattle.keeper_loss.proofs.list_gaps.Statement.{statement}

@@ -1,7 +1,5 @@
 -- `put_run`: both ends of the run, in the same slot. Assumes nothing.
 use mathlib.Core.Path.{refl, _∙_, ap}
-use mathlib.Core.List.{List}
-use Prim.Native.Nat.{ℕ}
 use native.Mathlib.Nat.{add-zero}
 use borrow.Author.Needs.{needs}
 use borrow.Author.Tests.{lt-ltb, le-ltb}

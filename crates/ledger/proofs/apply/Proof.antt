@@ -8,8 +8,8 @@ use Rattle.frame_layout.specs.Frames.{Range, Status}
 use Rattle.bearer.specs.Ledger.{markLost}
 use Rattle.frame_reader.specs.declared.Cursor.{Cursor}
 use Rattle.frame_reader.specs.Answers.{cursorOf}
-use Rattle.ledger_entries.specs.Steps.{walked, markedAs}
-use Rattle.ledger_entries.proofs.Walks.{all-met}
+use Rattle.ledger_marks.specs.Walked.{walked, markedAs}
+use Rattle.ledger_marks.proofs.Walks.{all-met}
 use Rattle.ledger.specs.View.{ledgerIn}
 use Rattle.ledger.specs.Steps.{statusIn}
 use Rattle.ledger.proofs.Calls.{accept-missing, accept-highest, accept-done}

@@ -5,7 +5,7 @@ use lib.ListN.{length}
 use borrow.Author.Needs.{needs}
 use Rattle.program_io.specs.Places.{Ready}
 use Rattle.program_io.proofs.Places.{fewer}
-use Rattle.lister.specs.Sizes.{mostText}
+use Rattle.lister_answers.specs.Answers.{mostText}
 use Rattle.lister.proofs.list_all.Statement.{statement}
 use Rattle.lister.proofs.list_all.Tie as tie
 

@@ -8,7 +8,7 @@ use borrow.Author.Needs.{needs}
 use Rattle.lister_lines.proofs.Feeds.{Goes, goes}
 use Rattle.program_io.specs.Places.{Ready}
 use Rattle.program_io.proofs.Places.{has-room}
-use Rattle.lister.specs.Sizes.{mostText}
+use Rattle.lister_answers.specs.Answers.{mostText}
 use Rattle.lister.proofs.list_block.Statement.{statement}
 use Rattle.lister.proofs.list_block.Tie as tie
 

@@ -9,7 +9,8 @@ use lib.Seq.{length-take-le, drop-drop}
 use borrow.Author.Needs.{needs}
 use borrow.Author.Tests.{leb-true, not-true, not-false}
 use Rattle.basics.proofs.Parts.{rest-part}
-use Rattle.lister_lines.specs.Feeding.{mostText, mostHeld, feeding, leaving, leftBy, Onward}
+use Rattle.lister_answers.specs.Answers.{mostText}
+use Rattle.lister_lines.specs.Feeding.{mostHeld, feeding, leaving, leftBy, Onward}
 use Rattle.lister_lines.proofs.Feeds.{fed-full}
 use Rattle.lister_lines.proofs.Kept.{take-held}
 use Rattle.lister_lines.proofs.feed.Statement.{statement}

@@ -10,9 +10,10 @@ use lib.ListN.{length, take, drop, length-take, drop-of-length-le}
 use lib.Seq.{length-take-le, take-all, split-at}
 use borrow.Author.Needs.{needs}
 use borrow.Author.Tests.{le-leb}
-use Rattle.lister_lines.specs.Listing.{lineFeed, lineOf}
+use Rattle.lister_text.specs.Texts.{lineFeed, unended, LineEnd}
+use Rattle.lister_answers.specs.Answers.{lineOf, mostText, roomy, answerIn}
 use Rattle.basics.specs.Laid.{Room, Laid}
-use Rattle.lister_lines.specs.Feeding.{mostText, mostHeld, roomy, answerIn, kept, feeding, leaving, unended, LineEnd, Onward}
+use Rattle.lister_lines.specs.Feeding.{mostHeld, kept, feeding, leaving, Onward}
 use Rattle.lister_lines.proofs.Feeds.{fed-plain, fed-line, leaving-saying}
 use Rattle.lister_lines.proofs.Kept.{line-kept}
 use Rattle.basics.proofs.Laying.{laid-length}

@@ -5,8 +5,9 @@ use mathlib.Core.List.{List, [], _∷_}
 use mathlib.Core.Path.{_≡_, refl, subst}
 use lib.ListN.{length, take, length-take}
 use borrow.Author.Needs.{needs}
-use Rattle.lister_lines.specs.Feeding.{roomy, answerIn, lastIn}
-use Rattle.lister_lines.proofs.Cases.{true-or}
+use Rattle.lister_answers.specs.Answers.{roomy, answerIn}
+use Rattle.lister_lines.specs.Feeding.{lastIn}
+use Rattle.lister_text.proofs.Cases.{true-or}
 use Rattle.basics.specs.Laid.{Laid}
 use Rattle.basics.proofs.Laying.{laid-none}
 use Rattle.lister_lines.proofs.finish.Statement.{statement}

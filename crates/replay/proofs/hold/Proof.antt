@@ -5,7 +5,7 @@ use native.Mathlib.Omega.{arith}
 use mathlib.Core.Path.{_≡_, refl, _∙_, ap₂}
 use borrow.Author.Tests.{le-leb}
 use lib.ListN.{length, take}
-use Rattle.lister_lines.proofs.Holding.{laid-size, same-part, held-more}
+use Rattle.lister_text.proofs.Holding.{laid-size, same-part, held-more}
 use Rattle.replay_calls.specs.Bound.{mostLine}
 use Rattle.replay.proofs.hold.Statement.{statement}
 use Rattle.replay.proofs.hold.Tie as tie

@@ -7,7 +7,7 @@ use lib.ListN.{length}
 use Rattle.program_io.specs.Places.{Ready}
 use Rattle.program_io.proofs.Places.{fewer}
 use Rattle.replay_calls.specs.Bound.{mostLine}
-use Rattle.replay_answers.specs.Answers.{mostText}
+use Rattle.replay_states.specs.Lines.{mostText}
 use Rattle.replay.proofs.play_all.Statement.{statement}
 use Rattle.replay.proofs.play_all.Tie as tie
 

@@ -7,7 +7,7 @@ use mathlib.Core.Path.{_≡_, refl, _∙_}
 use lib.ListN.{length}
 use Rattle.program_io.specs.Places.{Ready}
 use Rattle.replay_calls.specs.Bound.{mostLine}
-use Rattle.replay_answers.specs.Answers.{mostText}
+use Rattle.replay_states.specs.Lines.{mostText}
 use Rattle.replay.proofs.play_block.Statement.{statement}
 use Rattle.replay.proofs.play_block.Tie as tie
 

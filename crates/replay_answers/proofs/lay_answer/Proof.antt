@@ -1,6 +1,6 @@
 -- `lay_answer`: fields and a line feed, where there is room. Assumes nothing.
 use borrow.Author.Needs.{needs}
-use Rattle.replay_answers.proofs.Putting.{line-laid, line-left}
+use Rattle.replay_states.proofs.Saying.{line-laid, line-left}
 use borrow.Author.Tests.{not-true, not-false}
 use mathlib.Core.Path.{sym, _∙_}
 use native.Mathlib.Omega.{arith}
@@ -17,8 +17,8 @@ returns c = line-left _ _ _ (sym (c .before .has-room .ensures) ∙ not-true _ (
 put-answer-requires : tie.Need-put-answer-requires
 put-answer-requires c κs = search needs
 
-put-octet-requires : tie.Need-put-octet-requires
-put-octet-requires c κs = search needs
+put-end-requires : tie.Need-put-end-requires
+put-end-requires c κs = search needs
 
 same-length : tie.Need-same-length
 same-length c = search needs
@@ -29,7 +29,7 @@ returns-2 c =
     let put = ended .before .before .before .before in
     let room = put .before .before in
     let a = room .before .before .before .args in
-    line-laid (answerFields (a .answer)) (omega arith) (sym (room .before .has-room .ensures) ∙ not-false _ (room .if1 .left)) (put .put-answer .ensures) (ended .put-octet .ensures)
+    line-laid (answerFields (a .answer)) (omega arith) (sym (room .before .has-room .ensures) ∙ not-false _ (room .if1 .left)) (put .put-answer .ensures) (ended .put-end .ensures)
 
 pub lay-answer-spec : {M : Type 1} → statement M
 lay-answer-spec =
@@ -38,6 +38,6 @@ lay-answer-spec =
     has-room-requires
     returns
     put-answer-requires
-    put-octet-requires
+    put-end-requires
     same-length
     returns-2)

@@ -1,6 +1,6 @@
 -- `lay_frame`: fields and a line feed, where there is room. Assumes nothing.
 use borrow.Author.Needs.{needs}
-use Rattle.replay_answers.proofs.Putting.{line-laid, line-left}
+use Rattle.replay_states.proofs.Saying.{line-laid, line-left}
 use borrow.Author.Tests.{not-true, not-false}
 use mathlib.Core.Path.{sym, _∙_}
 use native.Mathlib.Omega.{arith}
@@ -18,8 +18,8 @@ returns c = line-left _ _ _ (sym (c .before .has-room .ensures) ∙ not-true _ (
 put-frame-requires : tie.Need-put-frame-requires
 put-frame-requires c κs = search needs
 
-put-octet-requires : tie.Need-put-octet-requires
-put-octet-requires c κs = search needs
+put-end-requires : tie.Need-put-end-requires
+put-end-requires c κs = search needs
 
 same-length : tie.Need-same-length
 same-length c = search needs
@@ -30,7 +30,7 @@ returns-2 c =
     let put = ended .before .before .before .before in
     let room = put .before .before .before in
     let a = room .before .before .before .args in
-    line-laid (frameFields (take (a .n) (a .octets .now))) (omega arith) (sym (room .before .has-room .ensures) ∙ not-false _ (room .if1 .left)) (put .put-frame .ensures) (ended .put-octet .ensures)
+    line-laid (frameFields (take (a .n) (a .octets .now))) (omega arith) (sym (room .before .has-room .ensures) ∙ not-false _ (room .if1 .left)) (put .put-frame .ensures) (ended .put-end .ensures)
 
 pub lay-frame-spec : {M : Type 1} → statement M
 lay-frame-spec =
@@ -39,6 +39,6 @@ lay-frame-spec =
     has-room-requires
     returns
     put-frame-requires
-    put-octet-requires
+    put-end-requires
     same-length
     returns-2)

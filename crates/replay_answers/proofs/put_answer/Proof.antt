@@ -1,37 +1,38 @@
 -- `put_answer`: each answer has its arm. Assumes nothing.
 use borrow.Author.Needs.{needs}
-use Rattle.replay_answers.proofs.Putting.{puts-most}
+use Rattle.replay_parts.proofs.Putting.{puts-parts, puts-fitting, puts-most}
+use Rattle.lister_text.specs.Texts.{ascii}
 use native.Mathlib.Omega.{arith}
-use Rattle.replay_answers.specs.Answers.{mostFields}
+use Rattle.replay_states.specs.Lines.{mostFields}
 use Rattle.replay_answers.proofs.put_answer.Statement.{statement}
 use Rattle.replay_answers.proofs.put_answer.Tie as tie
 
 enum-told : tie.Need-enum-told
 enum-told c = search needs
 
-slice-aggregate-put : tie.Need-slice-aggregate-put
-slice-aggregate-put c = search needs
+slice-aggregate-lay-text : tie.Need-slice-aggregate-lay-text
+slice-aggregate-lay-text c = search needs
 
-put-requires : tie.Need-put-requires
-put-requires c κs = search needs
+lay-text-requires : tie.Need-lay-text-requires
+lay-text-requires c κs = search needs
 
 enum-told-2 : tie.Need-enum-told-2
 enum-told-2 c = search needs
 
-slice-aggregate-put-2 : tie.Need-slice-aggregate-put-2
-slice-aggregate-put-2 c = search needs
+slice-aggregate-lay-text-2 : tie.Need-slice-aggregate-lay-text-2
+slice-aggregate-lay-text-2 c = search needs
 
-put-requires-2 : tie.Need-put-requires-2
-put-requires-2 c κs = search needs
+lay-text-requires-2 : tie.Need-lay-text-requires-2
+lay-text-requires-2 c κs = search needs
 
 enum-told-3 : tie.Need-enum-told-3
 enum-told-3 c = search needs
 
-slice-aggregate-put-3 : tie.Need-slice-aggregate-put-3
-slice-aggregate-put-3 c = search needs
+slice-aggregate-lay-text-3 : tie.Need-slice-aggregate-lay-text-3
+slice-aggregate-lay-text-3 c = search needs
 
-put-requires-3 : tie.Need-put-requires-3
-put-requires-3 c κs = search needs
+lay-text-requires-3 : tie.Need-lay-text-requires-3
+lay-text-requires-3 c κs = search needs
 
 enum-known-answer : tie.Need-enum-known-answer
 enum-known-answer c = search needs
@@ -76,31 +77,31 @@ same-length : tie.Need-same-length
 same-length c = search needs
 
 returns : tie.Need-returns
-returns c = rw (c .before .before .before .before .before .enum-told .given .1) (puts-most mostFields (omega arith) (c .before .before .put .ensures))
+returns c = rw (c .before .before .before .before .before .enum-told .given .1) (puts-fitting (ascii "ok") (omega arith) (c .before .before .lay-text .ensures))
 
 same-length-2 : tie.Need-same-length-2
 same-length-2 c = search needs
 
 returns-2 : tie.Need-returns-2
-returns-2 c = rw (c .before .before .before .before .before .enum-told2 .given .1) (puts-most mostFields (omega arith) (c .before .before .put2 .ensures))
+returns-2 c = rw (c .before .before .before .before .before .enum-told2 .given .1) (puts-fitting (ascii "unopened") (omega arith) (c .before .before .lay-text2 .ensures))
 
 same-length-3 : tie.Need-same-length-3
 same-length-3 c = search needs
 
 returns-3 : tie.Need-returns-3
-returns-3 c = rw (c .before .before .before .before .before .enum-told3 .given .1) (puts-most mostFields (omega arith) (c .before .before .put3 .ensures))
+returns-3 c = rw (c .before .before .before .before .before .enum-told3 .given .1) (puts-fitting (ascii "unreadable") (omega arith) (c .before .before .lay-text3 .ensures))
 
 same-length-4 : tie.Need-same-length-4
 same-length-4 c = search needs
 
 returns-4 : tie.Need-returns-4
-returns-4 c = rw (c .before .before .before .before .before .before .answer .given .1) (puts-most mostFields (omega arith) (c .before .before .put-named .ensures))
+returns-4 c = rw (c .before .before .before .before .before .before .answer .given .1) (puts-most mostFields (omega arith) (puts-parts (c .before .before .put-named .ensures)))
 
 same-length-5 : tie.Need-same-length-5
 same-length-5 c = search needs
 
 returns-5 : tie.Need-returns-5
-returns-5 c = rw (c .before .before .before .before .before .before .answer2 .given .1) (puts-most mostFields (omega arith) (c .before .before .put-named2 .ensures))
+returns-5 c = rw (c .before .before .before .before .before .before .answer2 .given .1) (puts-most mostFields (omega arith) (puts-parts (c .before .before .put-named2 .ensures)))
 
 same-length-6 : tie.Need-same-length-6
 same-length-6 c = search needs
@@ -118,21 +119,21 @@ same-length-8 : tie.Need-same-length-8
 same-length-8 c = search needs
 
 returns-8 : tie.Need-returns-8
-returns-8 c = rw (c .before .before .before .before .before .before .answer5 .given .1) (puts-most mostFields (omega arith) (c .before .before .put-named3 .ensures))
+returns-8 c = rw (c .before .before .before .before .before .before .answer5 .given .1) (puts-most mostFields (omega arith) (puts-parts (c .before .before .put-named3 .ensures)))
 
 pub put-answer-spec : {M : Type 1} → statement M
 put-answer-spec =
     tie.close
     (tie.spec
     enum-told
-    slice-aggregate-put
-    put-requires
+    slice-aggregate-lay-text
+    lay-text-requires
     enum-told-2
-    slice-aggregate-put-2
-    put-requires-2
+    slice-aggregate-lay-text-2
+    lay-text-requires-2
     enum-told-3
-    slice-aggregate-put-3
-    put-requires-3
+    slice-aggregate-lay-text-3
+    lay-text-requires-3
     enum-known-answer
     slice-aggregate-put-named
     put-named-requires

@@ -1,6 +1,6 @@
 -- `put_freed`: its parts one behind another. Assumes nothing.
 use borrow.Author.Needs.{needs}
-use Rattle.replay_answers.proofs.Putting.{puts-then}
+use Rattle.replay_parts.proofs.Putting.{puts-parts, puts-then}
 use Rattle.replay_answers.proofs.put_freed.Statement.{statement}
 use Rattle.replay_answers.proofs.put_freed.Tie as tie
 
@@ -35,7 +35,7 @@ returns c =
     let lost = flagged .before .before .before .before in
     let freed = lost .before .before .before .before .before in
     rw (← flagged .flag .ensures)
-    (puts-then (freed .put-named .ensures) (puts-then (lost .put-named2 .ensures) (final .put-named3 .ensures)))
+    (puts-then (puts-parts (freed .put-named .ensures)) (puts-then (puts-parts (lost .put-named2 .ensures)) (puts-parts (final .put-named3 .ensures))))
 
 pub put-freed-spec : {M : Type 1} → statement M
 put-freed-spec =

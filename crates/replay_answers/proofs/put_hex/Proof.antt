@@ -1,6 +1,6 @@
 -- `put_hex`: both digits. Assumes nothing.
 use borrow.Author.Needs.{needs}
-use Rattle.replay_answers.proofs.Putting.{puts-then}
+use Rattle.replay_parts.proofs.Putting.{puts-octet, puts-then}
 use Rattle.replay_answers.proofs.put_hex.Statement.{statement}
 use Rattle.replay_answers.proofs.put_hex.Tie as tie
 
@@ -24,7 +24,7 @@ returns c =
     let low = c .before .before in
     let high = low .before .before .before .before .before in
     rw (← high .before .before .hex-digit .ensures, ← low .before .before .hex-digit2 .ensures)
-    (puts-then (high .put-octet .ensures) (low .put-octet2 .ensures))
+    (puts-then (puts-octet (high .put-octet .ensures)) (puts-octet (low .put-octet2 .ensures)))
 
 pub put-hex-spec : {M : Type 1} → statement M
 put-hex-spec =

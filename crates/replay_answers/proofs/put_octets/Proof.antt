@@ -1,14 +1,13 @@
 -- `put_octets`: each turn lays the next octet. Assumes nothing.
-use Rattle.replay_answers.proofs.Putting.{puts-none, puts-then, puts-most}
+use Rattle.replay_parts.proofs.Putting.{puts-none, puts-then, puts-most}
 use Rattle.replay_answers.proofs.Hexadecimal.{hex-more}
 use Prim.Native.Nat.{_+_, _-_, _*_, _≤_}
 use native.Mathlib.Omega.{arith}
 use lib.ListN.{length, take}
 use lib.Seq.{take-all}
-use mathlib.Core.Path.{refl}
+use mathlib.Core.Path.{refl, _≡_}
 use Rattle.replay_answers.specs.Answers.{hexText}
-use Rattle.replay_answers.specs.Puts.{Puts}
-use mathlib.Core.Path.{_≡_}
+use Rattle.replay_parts.specs.Parts.{Puts}
 use borrow.Author.Needs.{needs}
 use Rattle.replay_answers.proofs.put_octets.Statement.{statement}
 use Rattle.replay_answers.proofs.put_octets.Tie as tie

@@ -1,6 +1,6 @@
 -- `put_taken`: both numbers. Assumes nothing.
 use borrow.Author.Needs.{needs}
-use Rattle.replay_answers.proofs.Putting.{puts-then}
+use Rattle.replay_parts.proofs.Putting.{puts-parts, puts-then}
 use Rattle.replay_answers.proofs.put_taken.Statement.{statement}
 use Rattle.replay_answers.proofs.put_taken.Tie as tie
 
@@ -17,7 +17,7 @@ same-length : tie.Need-same-length
 same-length c = search needs
 
 returns : tie.Need-returns
-returns c = puts-then (c .before .before .before .before .before .before .put-named .ensures) (c .before .before .put-behind .ensures)
+returns c = puts-then (puts-parts (c .before .before .before .before .before .before .put-named .ensures)) (puts-parts (c .before .before .put-behind .ensures))
 
 pub put-taken-spec : {M : Type 1} → statement M
 put-taken-spec =

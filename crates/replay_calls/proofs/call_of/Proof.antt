@@ -1,5 +1,5 @@
 -- `call_of`: accept by its field, any other by its numbers, of which no call has five. Assumes nothing.
-use mathlib.Core.Path.{refl, sym, _∙_, ap}
+use mathlib.Core.Path.{refl, _∙_, ap}
 use Rattle.replay_calls.specs.Calls.{tabbedFields, numbersOf, callWith}
 use Rattle.replay_calls.proofs.Several.{few-enough}
 use borrow.Author.Needs.{needs}

@@ -4,9 +4,8 @@ use mathlib.Core.Path.{refl, ap}
 use mathlib.Core.List.{List}
 use Prim.Native.Nat.{ℕ}
 use lib.Seq.{take-append-le}
-use Rattle.bearer.specs.Keeper.{Keeper}
-use Rattle.replay_answers.specs.Answers.{frameFields, lineWith}
-use Rattle.replay_ends.specs.Steps.{Step}
+use Rattle.replay_states.specs.Lines.{lineWith}
+use Rattle.replay_answers.specs.Answers.{frameFields}
 use Rattle.replay_keeper.proofs.framed.Statement.{statement}
 use Rattle.replay_keeper.proofs.framed.Tie as tie
 

@@ -7,7 +7,8 @@ use native.Mathlib.Omega.{arith}
 use lib.ListN.{length, take, replicate, length-replicate}
 use lib.Seq.{length-take-le}
 use Rattle.bearer.specs.Keeper.{Keeper, Reported, status as statusOf}
-use Rattle.bearer.proofs.Answers.Reported.{Within, left-report}
+use Rattle.frame_layout.specs.Frames.{Within}
+use Rattle.bearer.proofs.Answers.Reported.{left-report}
 use Rattle.keeper.specs.View.{keeperIn}
 use Rattle.replay_calls.specs.Calls.{mostRoom}
 use Rattle.replay_ends.specs.Steps.{reporting}

@@ -1,0 +1,61 @@
+// A status's ranges applied to the entries that the master holds: one pass over the entries, in step with one over the frame.
+ghost use mathlib.Core.Path.{_≡_};
+ghost use Prim.Native.Nat.{ℕ};
+ghost use Rattle.circle.specs.Lengths.{isLong};
+ghost use Rattle.bearer.specs.Ledger.{markLost};
+ghost use Rattle.ledger_entries.specs.View.{heldIn};
+ghost use Rattle.ledger_marks.specs.Walked.{walked, markedAs};
+use frame_reader::Cursor;
+use frame_reader::Step;
+use ledger_entries::Entry;
+use ledger_entries::MOST_ENTRIES;
+
+// Entries with a status's ranges applied, how many became lost, and whether each number of the ranges was found.
+pub struct Marked {
+    pub entries: [Entry; MOST_ENTRIES],
+    pub lost: u32,
+    pub found: bool,
+}
+
+// The numbers of the ranges, one after another, become lost where they are found among the waiting entries. A range ends
+// where its distance is used up. One place goes through the entries for all the ranges, so no range is walked further than
+// the entries reach.
+pub fn mark(es: [Entry; MOST_ENTRIES], count: usize, frame: &[u8], first: Cursor) -> Marked
+    ensures { λ r. ⌜ ((L : ℕ) → isLong L ≡ first .long → markedAs r count ≡ markLost L (heldIn es count) (walked (now (frame .entry)) first)) ⌝ }
+{
+    let n = basics::least(count, MOST_ENTRIES);
+    let mut m = Marked {
+        entries: es,
+        lost: 0,
+        found: false,
+    };
+    let mut at = first;
+    let mut i: usize = 0;
+    'ranges: loop {
+        let Step::Range { start, end, rest } = frame_view::next_range(frame, at) else {
+            return Marked { found: true, ..m };
+        };
+        at = rest;
+        let mut number = start;
+        let mut further = circle::distance(start, end, first.long);
+        loop {
+            if n <= i {
+                break 'ranges;
+            }
+            let e = m.entries[i];
+            if ledger_entries::matches(e, e.number, number) {
+                m.entries[i] = ledger_entries::as_lost(e);
+                m.lost += 1;
+                i += 1;
+                if further == 0 {
+                    break;
+                }
+                further -= 1;
+                number = circle::onward(number, 1, first.long);
+            } else {
+                i += 1;
+            }
+        }
+    }
+    m
+}

@@ -1,0 +1,5 @@
+pub mod Cases
+pub mod Decimal
+pub mod Hex
+pub mod Laying
+pub mod Holding

@@ -1,0 +1,19 @@
+-- `put_entry`: the packet that the entry bears. Assumes nothing.
+use borrow.Author.Needs.{needs}
+use Rattle.replay_states.proofs.put_entry.Statement.{statement}
+use Rattle.replay_states.proofs.put_entry.Tie as tie
+
+kind-of-fate-requires : tie.Need-kind-of-fate-requires
+kind-of-fate-requires c κs = search needs
+
+put-packet-requires : tie.Need-put-packet-requires
+put-packet-requires c κs = search needs
+
+same-length : tie.Need-same-length
+same-length c = search needs
+
+returns : tie.Need-returns
+returns c = rw (← c .before .before .before .before .kind-of-fate .ensures) (c .before .before .put-packet .ensures)
+
+pub put-entry-spec : {M : Type 1} → statement M
+put-entry-spec = tie.close (tie.spec kind-of-fate-requires put-packet-requires same-length returns)
