@@ -52,19 +52,27 @@ ended() {
 all() {
   scripts/setup.sh || { echo "0 passed, 1 failed"; return 1; }
 
-  # The Rust side needs nothing of the proofs. These take more jobs than there are processors, so that a short one waits for no long one
+  # The Rust side needs nothing of the proofs. These take more jobs than there are processors, so that a short one waits for no long one,
+  # but no more than fit into memory: a check takes up to 1 GB
   behind rust tests/rust.sh
+  local room=$(($(awk '/^MemAvailable:/ {print $2}' /proc/meminfo) / 1048576)) checks=$((2 * jobs))
+  [ "$checks" -le "$room" ] || checks=$((room > 1 ? room : 1))
   echo "== proofs"
-  run proofs env RT_JOBS="${RT_JOBS:-$((2 * jobs))}" rt ci
+  run proofs env RT_JOBS="${RT_JOBS:-$checks}" rt ci
   count proofs
   while [ ${#waiting[@]} -gt 0 ]; do wait -n; ended; done
 
-  # What several suites build is built once; where that fails they say so
+  # What several suites build is built once; where that fails they say so. Then all other suites, the long ones first
   run builds scripts/build.sh >/dev/null
   cat "$work/builds.took"
-  for name in property ramp boundary same_lister lister bench_sheet format docs; do
+  local name t
+  local -A begun=([rust]=yes)
+  for t in tests/property.sh tests/ramp.sh tests/*.sh; do
+    name=$(basename "$t" .sh)
+    if [ "${begun[$name]:-no}" = yes ]; then continue; fi
+    begun[$name]=yes
     while [ ${#waiting[@]} -ge "$jobs" ]; do wait -n; ended; done
-    behind $name tests/$name.sh
+    behind "$name" "$t"
   done
   while [ ${#waiting[@]} -gt 0 ]; do wait -n; ended; done
 

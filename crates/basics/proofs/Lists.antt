@@ -1,11 +1,16 @@
--- General laws of lists: of those whose elements are mapped, and of one with an element more at a place.
+-- General laws of lists: of those whose elements are mapped, of one with an element more at a place, and of two that are the same.
 -- Assumes nothing.
+use mathlib.Core.Bool.{true}
 use mathlib.Core.Path.{_≡_, refl, sym, _∙_, ap}
 use mathlib.Core.List.{List, [], _∷_, _++_, map, map-append}
 use Prim.Native.Nat.{ℕ, zero, suc, _+_, _<_}
 use native.Mathlib.Nat.{le-of-suc-le-suc}
 use native.Mathlib.Omega.{arith}
+use lib.Dec.{eqb}
 use lib.ListN.{length, getD, take, drop, set, take-append-drop, length-append}
+use borrow.Author.Tests.{eqb-true}
+use Rattle.basics.specs.Basics.{same}
+use Rattle.basics.proofs.Choices.{and-true}
 
 -- ---- mapped lists
 
@@ -49,3 +54,16 @@ pub length-inserted : {A : Type 0} (p : ℕ) (y : A) (xs : List A) → length (i
 length-inserted p y xs =
     let whole : length (take p xs) + length (drop p xs) ≡ length xs = sym (length-append (take p xs) (drop p xs)) ∙ ap length (take-append-drop p xs) in
     rw (length-append (take p xs) (y ∷ drop p xs)) (omega arith)
+
+-- ---- lists that are the same
+
+-- two lists that are the same are equal
+pub same-equal : (k l : List ℕ) → same k l ≡ true → k ≡ l
+same-equal [] [] e = refl
+same-equal [] (d ∷ ds) e = cc
+same-equal (c ∷ cs) [] e = cc
+same-equal (c ∷ cs) (d ∷ ds) e =
+    let p = and-true (eqb c d) (same cs ds) e in
+    let heads = eqb-true c d (p .0) in
+    let tails = same-equal cs ds (p .1) in
+    cc

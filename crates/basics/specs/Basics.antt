@@ -47,6 +47,13 @@ abbrev pub all : {A : Type 0} → (A → Bool) → List A → Bool
 all p [] = true
 all p (x ∷ xs) = p x and all p xs
 
+-- whether two lists of numbers are the same
+abbrev pub same : List ℕ → List ℕ → Bool
+same [] [] = true
+same [] (y ∷ ys) = false
+same (x ∷ xs) [] = false
+same (x ∷ xs) (y ∷ ys) = eqb x y and same xs ys
+
 -- whether a list has an element
 abbrev pub some-in : {A : Type 0} → List A → Bool
 some-in [] = false

@@ -6,14 +6,14 @@
 -- Assumes nothing.
 use mathlib.Core.Bool.{Bool, true, false, not}
 use mathlib.Core.List.{List, [], _∷_, _++_, map}
-use Prim.Native.Nat.{ℕ, zero, suc, _+_, _-_, _/_, _%_}
+use Prim.Native.Nat.{ℕ, zero, suc, _+_, _-_, _%_}
 use lib.Dec.{ltb, leb, eqb}
 use lib.ListN.{length, getD, take, drop, set}
 use Rattle.circle.specs.Circle.{forward}
 use Rattle.basics.specs.Basics.{if_then_else_, _and_, _or_, Outcome, done, refused}
 use Rattle.frame_layout.specs.Frames.{Range, Status, Written, mostRanges, startsOf, endsOf, writeStatus}
 use Rattle.bearer.specs.Bearer.{window, mostRuns, mostRecords, After, refusing, answering}
-use Rattle.circle.specs.Lengths.{isLength, isLong, modulusOf, pdcps, pdcpBefore}
+use Rattle.circle.specs.Lengths.{isLength, isLong, modulusOf, half, pdcps, pdcpBefore}
 use Rattle.bearer.specs.Losses.{beforeBase, floorBehind, placeIn, bearsBefore, topOf, offsets, aboveBase, Gap, lostBelow, sizeOf, lowest, raisedBase, newRuns, withRuns, goesBefore}
 
 -- a packet that arrived: its two numbers, and whether the handset has it
@@ -167,7 +167,7 @@ arrived k n p i d = k with-base arrivedBase k i d with-runs runsAfter k (limitOf
 abbrev pub arriveAt : Keeper → ℕ → ℕ → ℕ → ℕ → After Keeper ℕ
 arriveAt k n p i d =
     if hasRecord k n i then refusing 12 k else
-    if leb (modulusOf (k .bits) / 2) (floor k + d) then refusing 13 k else
+    if leb (half (k .bits)) (floor k + d) then refusing 13 k else
     if ltb mostRuns (length (runsAfter k (limitOf d))) then refusing 14 k else
     if leb mostRecords (length (k .records)) then refusing 15 k else
     answering (sizeOf (givenUp k (limitOf d))) (arrived k n p i d)

@@ -1,5 +1,6 @@
 pub mod Forms
 pub mod Octets
+pub mod Ranges
 pub mod Padding
 pub mod First
 pub mod Frame

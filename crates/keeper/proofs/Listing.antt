@@ -12,7 +12,7 @@ use Rattle.frame_layout.specs.Frames.{Range, rangesOf, startsOf, endsOf}
 use Rattle.bearer.specs.Losses.{Gap, gaps, offsets, runsOf, newRuns, withRuns}
 use Rattle.keeper_judge.specs.declared.Losses.{Losses}
 use Rattle.keeper_judge.specs.Judgements.{firstAdjoins, Losing}
-use Rattle.keeper_state.proofs.Ranges.{ranges-take, ranges-append, ranges-own, ranges-count, starts-listed}
+use Rattle.frame_layout.proofs.Ranges.{ranges-take, ranges-append, ranges-own, ranges-count, starts-listed}
 use Rattle.keeper_judge.proofs.Joining.{adjoins-listed, with-apart, with-joined, count-apart, count-joined}
 use Rattle.keeper_judge.proofs.Given.{same-gaps}
 use Rattle.keeper.specs.Steps.{Lists}

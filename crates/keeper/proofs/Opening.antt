@@ -10,7 +10,7 @@ use Rattle.bearer.specs.Bearer.{refusing, answering}
 use Rattle.bearer.specs.Keeper.{Keeper, openKeeper}
 use Rattle.keeper_state.specs.State.{stateOf}
 use Rattle.keeper.specs.View.{freshWords, opensInto}
-use Rattle.keeper.proofs.Lengths.{length-read}
+use Rattle.circle.proofs.Forms.{length-read}
 
 module _ (k : Keeper) (L first f : ℕ) where
   pub bad-length : isLength L ≡ false → opensInto k (openKeeper L first f) ≡ refusing 7 k

@@ -7,7 +7,7 @@ use native.Mathlib.Omega.{arith}
 use lib.ListN.{take, drop}
 use Rattle.frame_layout.specs.Frames.{rangesOf, mostRanges}
 use Rattle.bearer.specs.Bearer.{mostRuns}
-use Rattle.keeper_state.proofs.Ranges.{ranges-take, ranges-drop}
+use Rattle.frame_layout.proofs.Ranges.{ranges-take, ranges-drop}
 use Rattle.keeper.proofs.Parts.{drop-both}
 
 -- as many as a word says are listed

@@ -14,7 +14,7 @@ use Rattle.frame_layout.specs.Frames.{Range, startsOf}
 use Rattle.bearer.specs.Bearer.{After, refusing, answering, mostRuns, mostRecords}
 use Rattle.bearer.specs.Losses.{fromOn, bearsBefore, placeIn, floorBehind, sizeOf}
 use Rattle.bearer.specs.Keeper.{Keeper, Record, numbersOf, runsAfter, givenUp, limitOf, placeOf, baseArrived, arrived, arriveAt, arrive}
-use Rattle.keeper_loss.proofs.Ends.{front-within}
+use Rattle.bearer.proofs.Lists.Mapped.{front-within}
 use Rattle.keeper_state.specs.declared.Words.{Words}
 use Rattle.keeper_judge.specs.declared.Losses.{Losses}
 use Rattle.keeper_state.specs.State.{modulusIn, stateOf}

@@ -1,4 +1,4 @@
--- Lists of numbers at their last element, in front of a place, or from a place on.
+-- Lists of numbers at their last element, or in front of a place.
 -- Assumes nothing.
 use mathlib.Core.Path.{_≡_, refl}
 use mathlib.Core.Bool.{false}
@@ -6,8 +6,7 @@ use mathlib.Core.List.{List, [], _∷_}
 use Prim.Native.Nat.{ℕ, zero, suc, _+_, _-_, _<_}
 use native.Mathlib.Omega.{arith}
 use lib.Dec.{eqb}
-use lib.ListN.{length, getD, take, drop, length-drop}
-use lib.Seq.{take-all}
+use lib.ListN.{length, getD}
 use Rattle.bearer.specs.Losses.{bearsBefore, adjoins}
 use Rattle.keeper_judge.specs.Judgements.{adjoinsLast}
 
@@ -31,7 +30,3 @@ adjoins-at M start (e ∷ f ∷ es) (suc i) h = adjoins-at M start (f ∷ es) i 
 pub bears-at : (ns : List ℕ) (n i : ℕ) → 0 < i → bearsBefore ns n i ≡ eqb (getD ns (i - 1) 0) n
 bears-at ns n zero h = absurd (omega arith)
 bears-at ns n (suc i) h = let e : suc i - 1 ≡ i = omega arith in rw e
-
--- a part from a place on, as long as it is
-pub rest-part : (a : List ℕ) (k : ℕ) → take (length a - k) (drop k a) ≡ drop k a
-rest-part a k = take-all (length a - k) (drop k a) (simp length-drop (omega arith))

@@ -34,14 +34,6 @@ module _ (p : ℕ → Bool) where
   front-at (x ∷ xs) zero l h a = rw h (ap suc (front-none xs a))
   front-at (x ∷ xs) (suc i) l h a = rw (one-not (x ∷ xs) (suc i) l h) (ap suc (front-at xs i (omega arith) h a))
 
-  pub front-within : (xs : List ℕ) → frontOf p xs ≤ length xs
-  front-within [] = omega arith
-  front-within (x ∷ xs) = by-test (all p (x ∷ xs)) (front-within xs)
-    where
-      by-test : (t : Bool) → frontOf p xs ≤ length xs → (if t then 0 else suc (frontOf p xs)) ≤ suc (length xs)
-      by-test true h = omega arith
-      by-test false h = omega arith
-
   -- one element more that has it
   pub end-more : (xs : List ℕ) (i : ℕ) → 0 < i → i ≤ length xs → p (getD xs (i - 1) 0) ≡ true → all p (drop i xs) ≡ true → all p (drop (i - 1) xs) ≡ true
   end-more xs i o l h a =

@@ -11,7 +11,7 @@ use Rattle.frame_layout.specs.Frames.{rangesOf, startsOf, endsOf}
 use Rattle.bearer.specs.Keeper.{Record, noRecord, numbersOf}
 use Rattle.keeper_state.specs.declared.Words.{Words}
 use Rattle.keeper_state.specs.State.{recordsOf, heldIn, listedIn, stateIn, HeldSizes, ListedSizes, Fronts}
-use Rattle.keeper_state.proofs.Ranges.{starts-listed, ends-listed, ranges-count}
+use Rattle.frame_layout.proofs.Ranges.{starts-listed, ends-listed, ranges-count}
 use Rattle.keeper_state.proofs.Records.{records-take, record-at, numbers-held, records-count}
 
 -- ---- the records

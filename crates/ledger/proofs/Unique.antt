@@ -5,7 +5,8 @@
 use mathlib.Core.List.{List}
 use mathlib.Core.Path.{_≡_, refl, sym, _∙_, ap}
 use Prim.Native.Nat.{ℕ}
-use Rattle.basics.specs.Basics.{Outcome, done}
+use Rattle.basics.specs.Basics.{Outcome}
+use Rattle.basics.proofs.Choices.{done-one}
 use Rattle.bearer.specs.Bearer.{After}
 use Rattle.bearer.specs.Ledger as machine
 use Rattle.ledger.specs.declared.Ledger.{Ledger}
@@ -21,9 +22,6 @@ use Rattle.ledger.specs.View.{ledgerIn, openedAs, sentAs, acceptedAs, ta
 
 -- ---- an answer stands for one outcome, and no other answer stands for it
 
-one-done : {A : Type 0} (x y : A) → done x ≡ done y → x ≡ y
-one-done x y e = cc
-
 same-opened : (a b : O.Opened) → openedAs a ≡ openedAs b → a ≡ b
 same-opened O.the-variants.Done O.the-variants.Done e = refl
 same-opened O.the-variants.Done (O.the-variants.Refused m) e = cc
@@ -37,13 +35,13 @@ same-sent (S.the-variants.Refused n) (S.the-variants.Number m) e = cc
 same-sent (S.the-variants.Refused n) (S.the-variants.Refused m) e = cc
 
 same-accepted : (a b : A.Accepted) → acceptedAs a ≡ acceptedAs b → a ≡ b
-same-accepted (A.the-variants.Counts f l x) (A.the-variants.Counts g m y) e = ap (λ (w : machine.Accepted). A.the-variants.Counts (w .freed) (w .lost) (w .final)) (one-done _ _ e)
+same-accepted (A.the-variants.Counts f l x) (A.the-variants.Counts g m y) e = ap (λ (w : machine.Accepted). A.the-variants.Counts (w .freed) (w .lost) (w .final)) (done-one _ _ e)
 same-accepted (A.the-variants.Counts f l x) (A.the-variants.Refused m) e = cc
 same-accepted (A.the-variants.Refused n) (A.the-variants.Counts g m y) e = cc
 same-accepted (A.the-variants.Refused n) (A.the-variants.Refused m) e = cc
 
 same-taken : (a b : T.Taken) → takenAs a ≡ takenAs b → a ≡ b
-same-taken (T.the-variants.Packet n p) (T.the-variants.Packet m q) e = ap (λ (w : machine.Taken). T.the-variants.Packet (w .number) (w .pdcp)) (one-done _ _ e)
+same-taken (T.the-variants.Packet n p) (T.the-variants.Packet m q) e = ap (λ (w : machine.Taken). T.the-variants.Packet (w .number) (w .pdcp)) (done-one _ _ e)
 same-taken (T.the-variants.Packet n p) (T.the-variants.Refused m) e = cc
 same-taken (T.the-variants.Refused n) (T.the-variants.Packet m q) e = cc
 same-taken (T.the-variants.Refused n) (T.the-variants.Refused m) e = cc

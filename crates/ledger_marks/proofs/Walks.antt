@@ -9,6 +9,7 @@ use native.Mathlib.Omega.{arith}
 use borrow.Author.Tests.{le-ltb}
 use lib.Dec.{ltb, eqb·suc-zero}
 use lib.ListN.{length}
+use Rattle.basics.proofs.Apart.{apart}
 use Rattle.basics.proofs.Choices.{by-choice}
 use Rattle.frame_layout.specs.Octets.{field}
 use Rattle.frame_layout.specs.Frames.{Range, width, rangesAt}
@@ -21,10 +22,6 @@ use Rattle.ledger_marks.specs.Walked.{walked, walkedAt}
 -- a range
 abbrev pub range : ℕ → ℕ → Range
 range s t = record { start = s; end = t }
-
--- where two constructors would be equal, `cc` shows that 0 is 1
-apart : {A : Type 0} → _≡_ {A = ℕ} 0 1 → A
-apart e = absurd (omega arith)
 
 -- two answers that are equal bear the same range, with the same ahead of it
 same-first : (s : List ℕ) {x y a b : ℕ} {c d : Cursor} → step.Range x y c ≡ step.Range a b d → range x y ∷ walked s c ≡ range a b ∷ walked s d

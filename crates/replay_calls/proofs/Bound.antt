@@ -15,12 +15,13 @@ use Rattle.lister_text.proofs.Cases.{true-or, below-or}
 use Rattle.lister_text.proofs.Holding.{front-answers}
 use Rattle.replay_calls.specs.declared.Number as N
 use Rattle.replay_calls.specs.declared.Call.the-variants.{Unreadable}
-use Rattle.replay_calls.specs.Calls.{fieldsIn, firstField, tabbedFields, numberOf, before, numbersOf, same, callWith, acceptOf, callBy, callIn, readCall}
+use Rattle.replay_calls.specs.Calls.{fieldsIn, firstField, tabbedFields, numberOf, before, numbersOf, callWith, acceptOf, callBy, callIn, readCall}
 use Rattle.replay_calls.specs.Bound.{mostLine, TooLong, FrontTells, LongestCalls}
 use Rattle.replay_calls.proofs.Fields.{fields-split}
 use Rattle.replay_calls.proofs.Numbers.{unread-long}
 use Rattle.replay_calls.proofs.Several.{few-enough}
-use Rattle.replay_calls.proofs.Words.{same-equal}
+use Rattle.basics.specs.Basics.{same}
+use Rattle.basics.proofs.Lists.{same-equal}
 
 -- ---- fields
 

@@ -1,14 +1,14 @@
 -- What a line of a script says (the table of calls): a word and its fields, parted by tabs. A text is a list of the octets of
 -- its characters.
 -- Assumes nothing.
-use mathlib.Core.Bool.{Bool, true, false, not}
+use mathlib.Core.Bool.{Bool, not}
 use mathlib.Core.List.{List, [], _∷_}
 use mathlib.Core.Option.{Option, none, some}
 use Prim.Native.Nat.{ℕ, _+_, _-_, _*_}
 use Prim.Native.Char.{code}
 use lib.Dec.{ltb, leb, eqb}
 use lib.ListN.{length, take, drop}
-use Rattle.basics.specs.Basics.{if_then_else_, _and_, _or_, all}
+use Rattle.basics.specs.Basics.{if_then_else_, _and_, _or_, all, same}
 use Rattle.lister_text.specs.Texts.{ascii, tab, onto}
 use Rattle.lister_text.specs.Hexadecimal.{decodedOf, decodedInto}
 use Rattle.lister_text.specs.declared.Decoded as D
@@ -81,15 +81,6 @@ few (some ns) = if leb (length ns) 4 then some ns else none
 -- as the code holds them: so many at the front of an array, or none that can be read
 abbrev pub heldIn : ℕ → List ℕ → Option (List ℕ)
 heldIn n values = if leb n 4 then some (take n values) else none
-
--- ---- words
-
--- two texts are the same
-abbrev pub same : List ℕ → List ℕ → Bool
-same [] [] = true
-same [] (d ∷ ds) = false
-same (c ∷ cs) [] = false
-same (c ∷ cs) (d ∷ ds) = eqb c d and same cs ds
 
 -- ---- calls
 

@@ -4,7 +4,8 @@ ghost use mathlib.Core.List.{[], _∷_};
 ghost use mathlib.Core.Option.{some};
 ghost use Prim.Native.Nat.{_+_, _-_, _<_};
 ghost use lib.ListN.{length};
-ghost use Rattle.replay_calls.specs.Calls.{same as «sameOf», firstField, tabbedFields, decimalOf, numberOf, numbersOf, few, heldIn, statusOf, callWith, acceptOf, callBy, readCall, decodedBehind, frameBy, frameAfter};
+ghost use Rattle.basics.specs.Basics.{same as «sameOf»};
+ghost use Rattle.replay_calls.specs.Calls.{firstField, tabbedFields, decimalOf, numberOf, numbersOf, few, heldIn, statusOf, callWith, acceptOf, callBy, readCall, decodedBehind, frameBy, frameAfter};
 use frame_layout::FrameArray;
 
 const MOST_NUMBER: u64 = 4294967295;

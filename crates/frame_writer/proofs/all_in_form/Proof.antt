@@ -10,7 +10,8 @@ use lib.ListN.{length, getD}
 use Rattle.basics.specs.Basics.{all}
 use Rattle.circle.specs.Lengths.{modulus}
 use Rattle.frame_layout.specs.Frames.{inForm, rangesOf}
-use Rattle.frame_writer.proofs.Ranges.{rangesOn, rangeAt, length-ranges, ranges-next, ranges-end}
+use Rattle.frame_writer.proofs.Ranges.{rangesOn, rangeAt, ranges-next, ranges-end}
+use Rattle.frame_layout.proofs.Ranges.{ranges-count}
 use Rattle.frame_writer.proofs.all_in_form.Statement.{statement}
 use Rattle.frame_writer.proofs.all_in_form.Tie as tie
 
@@ -45,7 +46,7 @@ modulus-requires c κs = search needs
 loop-holds : tie.Need-loop-holds Inv-loop μ-loop
 loop-holds c =
     let a = c .before .before .before .args in
-    let lengths = length-ranges (a .starts .now) (a .ends .now) in
+    let lengths = ranges-count (a .starts .now) (a .ends .now) in
     (omega arith, omega arith, refl)
 
 mul-if1 : tie.Need-mul-if1 Inv-loop μ-loop

@@ -10,7 +10,8 @@ use Rattle.frame_layout.specs.Frames.{width, rangesOf, rangeOctets}
 use Rattle.basics.specs.Laid.{Room, Laid}
 use Rattle.frame_layout.proofs.Octets.{length-octets}
 use Rattle.basics.proofs.Laying.{laid-none, laid-then, laid-length, laid-room}
-use Rattle.frame_writer.proofs.Ranges.{rangesOn, rangeAt, length-ranges, ranges-next, ranges-end}
+use Rattle.frame_writer.proofs.Ranges.{rangesOn, rangeAt, ranges-next, ranges-end}
+use Rattle.frame_layout.proofs.Ranges.{ranges-count}
 use Rattle.frame_writer.proofs.put_ranges.Statement.{statement}
 use Rattle.frame_writer.proofs.put_ranges.Tie as tie
 
@@ -41,7 +42,7 @@ left c =
 loop-holds : tie.Need-loop-holds Inv-loop μ-loop
 loop-holds c =
     let a = c .before .before .before .args in
-    let lengths = length-ranges (a .starts .now) (a .ends .now) in
+    let lengths = ranges-count (a .starts .now) (a .ends .now) in
     (omega arith, omega arith, c .before .before .before .pre .1, λ next e l. l)
 
 mul-put-range : tie.Need-mul-put-range Inv-loop μ-loop

@@ -14,7 +14,7 @@ use Rattle.frame_writer.specs.Lengths.{statusLength}
 use Rattle.basics.proofs.Laying.{laid-length, laid-room}
 use Rattle.frame_writer.proofs.Lengths.{length-status}
 use Rattle.frame_writer.proofs.Placed.{placed, unplaced}
-use Rattle.frame_writer.proofs.Ranges.{length-ranges}
+use Rattle.frame_layout.proofs.Ranges.{ranges-count}
 use Rattle.frame_writer.proofs.write_status.Statement.{statement}
 use Rattle.frame_writer.proofs.write_status.Tie as tie
 
@@ -63,7 +63,7 @@ least-requires c κs = search needs
 
 -- the count is that of the ranges
 count-said : (c : tie.After-least) → c .least .result ≡ length (asked (entry (told c)) .ranges)
-count-said c = let a = entry (told c) .args in c .least .ensures ∙ sym (length-ranges (a .starts .now) (a .ends .now))
+count-said c = let a = entry (told c) .args in c .least .ensures ∙ sym (ranges-count (a .starts .now) (a .ends .now))
 
 returns-2 : tie.Need-returns-2
 returns-2 c =

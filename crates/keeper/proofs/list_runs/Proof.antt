@@ -6,7 +6,7 @@ use native.Mathlib.Omega.{arith}
 use borrow.Author.Needs.{needs}
 use borrow.Author.Tests.{not-true, not-false}
 use Rattle.basics.specs.Basics.{bit}
-use Rattle.keeper_judge.proofs.Numbers.{rest-part}
+use Rattle.basics.proofs.Parts.{rest-part}
 use Rattle.keeper.proofs.Listing.{lists-some, lists-joined, lists-behind}
 use Rattle.keeper.proofs.list_runs.Statement.{statement}
 use Rattle.keeper.proofs.list_runs.Tie as tie

@@ -6,7 +6,7 @@ use borrow.Author.Needs.{needs}
 use lib.ListN.{take}
 use Rattle.frame_layout.specs.Frames.{Range, rangesOf, mostRanges, writeStatus}
 use Rattle.bearer.specs.Bearer.{mostRuns}
-use Rattle.keeper_state.proofs.Ranges.{ranges-take}
+use Rattle.frame_layout.proofs.Ranges.{ranges-take}
 use Rattle.keeper.specs.Steps.{statusWith}
 use Rattle.keeper.proofs.Parts.{take-both}
 use Rattle.keeper.proofs.write_runs.Statement.{statement}

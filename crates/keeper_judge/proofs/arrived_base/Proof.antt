@@ -1,7 +1,7 @@
 -- `arrived_base`: base moves as the machine moves it, by what is given up and where the arrival lies. Assumes nothing.
 use borrow.Author.Tests.{eq-eqb, ne-eqb, lt-ltb, le-ltb}
 use Rattle.bearer.specs.Bearer.{window}
-use Rattle.keeper_judge.proofs.Numbers.{rest-part}
+use Rattle.basics.proofs.Parts.{rest-part}
 use Prim.Native.Nat.{_≤_}
 use native.Mathlib.Omega.{arith}
 use mathlib.Core.Path.{_∙_}

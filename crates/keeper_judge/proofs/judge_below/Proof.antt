@@ -12,8 +12,8 @@ use Rattle.bearer.specs.Losses.{topOf, offsets, raisedBase}
 use Rattle.keeper_loss.proofs.Ends.{top-below}
 use Rattle.keeper_state.specs.State.{modulusIn}
 use Rattle.keeper_judge.specs.Judgements.{Losing}
-use Rattle.keeper_judge.proofs.Numbers.{rest-part}
-use Rattle.keeper_state.proofs.Ranges.{ends-own}
+use Rattle.basics.proofs.Parts.{rest-part}
+use Rattle.frame_layout.proofs.Ranges.{ends-own}
 use Rattle.keeper_judge.proofs.Expiring.{closed-expiry, no-gap, many-below, accepted-below}
 use Rattle.keeper_judge.proofs.judge_below.Statement.{statement}
 use Rattle.keeper_judge.proofs.judge_below.Tie as tie

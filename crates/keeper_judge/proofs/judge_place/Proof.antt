@@ -12,10 +12,11 @@ use Rattle.circle.specs.Lengths.{modulus}
 use Rattle.frame_layout.specs.Frames.{Range, rangesOf, endsOf}
 use Rattle.bearer.specs.Losses.{fromOn, frontOf, placeIn, bearsBefore, floorBehind}
 use Rattle.bearer.specs.Keeper.{limitOf, baseArrived}
-use Rattle.keeper_loss.proofs.Ends.{front-within, first-below}
+use Rattle.keeper_loss.proofs.Ends.{first-below}
+use Rattle.bearer.proofs.Lists.Mapped.{front-within}
 use Rattle.keeper_state.specs.State.{modulusIn}
 use Rattle.keeper_judge.specs.Judgements.{Losing, Reaches}
-use Rattle.keeper_state.proofs.Ranges.{ends-own}
+use Rattle.frame_layout.proofs.Ranges.{ends-own}
 use Rattle.keeper_judge.proofs.Arriving.{again, span, many-runs, many-records, accepted}
 use Rattle.keeper_judge.proofs.judge_place.Statement.{statement}
 use Rattle.keeper_judge.proofs.judge_place.Tie as tie

@@ -11,11 +11,11 @@ use Rattle.frame_layout.specs.Frames.{Range, endsOf}
 use Rattle.bearer.specs.Losses.{fromOn, frontOf, fromBase, aboveBase, lostBelow, gaps}
 use Rattle.keeper_loss.specs.declared.GivenUp.{GivenUp}
 use Rattle.keeper_loss.specs.Tally.{told}
-use Rattle.keeper_loss.proofs.Ends.{front-within}
+use Rattle.bearer.proofs.Lists.Mapped.{front-within}
 use Rattle.keeper_loss.proofs.Gaps.{gaps-none, gaps-count}
 use Rattle.keeper_judge.specs.declared.Losses.{Losses}
 use Rattle.keeper_judge.specs.Judgements.{adjoinsLast}
-use Rattle.keeper_judge.proofs.Numbers.{rest-part}
+use Rattle.basics.proofs.Parts.{rest-part}
 use Rattle.keeper_judge.proofs.Given.{none-losing, some-losing}
 use Rattle.keeper_judge.proofs.lost_below.Statement.{statement}
 use Rattle.keeper_judge.proofs.lost_below.Tie as tie

@@ -1,13 +1,13 @@
--- Starts and ends as runs: parts of the two lists are parts of the runs.
+-- Starts and ends as ranges: parts of the two lists are parts of the ranges.
 -- Assumes nothing.
 use mathlib.Core.Path.{_≡_, refl, sym, ap}
 use mathlib.Core.List.{List, [], _∷_, _++_}
 use Prim.Native.Nat.{ℕ, zero, suc, _≤_, min}
 use native.Mathlib.Omega.{arith}
 use lib.ListN.{length, take, drop}
 use Rattle.frame_layout.specs.Frames.{Range, rangesOf, startsOf, endsOf}
 
--- the first runs are those of the first starts and ends
+-- the first ranges are those of the first starts and ends
 pub ranges-take : (n : ℕ) (ss es : List ℕ) → take n (rangesOf ss es) ≡ rangesOf (take n ss) (take n es)
 ranges-take zero ss es = refl
 ranges-take (suc n) [] es = refl
@@ -43,13 +43,13 @@ pub ends-own : (es : List ℕ) → endsOf (rangesOf es es) ≡ es
 ends-own [] = refl
 ends-own (e ∷ es) = ap (λ (l : List ℕ). e ∷ l) (ends-own es)
 
--- there are as many runs as there are of both
+-- there are as many ranges as there are of both
 pub ranges-count : (ss es : List ℕ) → length (rangesOf ss es) ≡ min (length ss) (length es)
 ranges-count [] es = omega arith
 ranges-count (s ∷ ss) [] = omega arith
 ranges-count (s ∷ ss) (e ∷ es) = omega (arith, ranges-count ss es)
 
--- ---- the first n runs of starts and ends, where there are so many of both
+-- ---- the first n ranges of starts and ends, where there are so many of both
 
 -- their starts are the first starts
 pub starts-listed : (n : ℕ) (ss es : List ℕ) → n ≤ length ss → n ≤ length es → startsOf (take n (rangesOf ss es)) ≡ take n ss
