@@ -1,13 +1,13 @@
 -- What a writer leaves (specs/Trips.antt, `WritesLeave`). So a refused write changes no octet, and a length that is answered lies within the buffer.
 -- Assumes nothing.
-use mathlib.Core.Path.{_≡_, refl, sym, subst}
-use mathlib.Core.Bool.{Bool, false, true≢false}
+use mathlib.Core.Path.{_≡_, sym, subst}
+use mathlib.Core.Bool.{Bool}
 use mathlib.Core.List.{List}
 use Prim.Native.Nat.{ℕ, _≤_}
 use borrow.Author.Tests.{ltb-false}
 use lib.Dec.{ltb}
 use lib.ListN.{length}
-use Rattle.basics.specs.Basics.{Outcome, done, isDone, all}
+use Rattle.basics.specs.Basics.{Outcome, done, all}
 use Rattle.circle.specs.Lengths.{modulus}
 use Rattle.basics.proofs.Choices.{of-choice}
 use Rattle.frame_layout.specs.Frames.{Status, Written, Within, place, dataOctets, statusOctets, mostHighest, mostRanges, inForm, writeData, writeStatus}
@@ -33,18 +33,6 @@ status-leaves s d =
 pub writes-leave : WritesLeave
 writes-leave (data-frame long n) d = data-leaves long n d
 writes-leave (status-frame s) d = status-leaves s d
-
--- ---- a refused write changes no octet
-
-refused-keeps : {frame d : List ℕ} {w : Written} → Leaves frame d w → isDone (w .answer) ≡ false → w .buffer ≡ d
-refused-keeps (refuses n) e = refl
-refused-keeps (writes room) e = absurd (true≢false e)
-
-pub write-keeps : (s : Status) (d : List ℕ) → isDone (writeStatus s d .answer) ≡ false → writeStatus s d .buffer ≡ d
-write-keeps s d = refused-keeps (status-leaves s d)
-
-pub write-data-keeps : (long : Bool) (n : ℕ) (d : List ℕ) → isDone (writeData long n d .answer) ≡ false → writeData long n d .buffer ≡ d
-write-data-keeps long n d = refused-keeps (data-leaves long n d)
 
 -- ---- a length that is answered lies within the buffer
 
