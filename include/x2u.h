@@ -93,7 +93,8 @@ int64_t x2u_keeper_status(uint32_t numbers[X2U_MOST_RECORDS], uint32_t pdcps[X2U
                           uint32_t desired, uint32_t minimum, uint32_t last, uint8_t *buffer, size_t room);
 
 /* ---- the keeper as one block, for any memory that the caller has; it may be copied as a whole. Open it before any other
- * call: what another call answers on a block that wasn't opened has no meaning. */
+ * call: what another call answers on a block that wasn't opened has no meaning. A status then may also answer -X2U_HIGHEST or
+ * -X2U_NUMBER; on a block that was opened, and that calls alone have changed, it never does. */
 
 /* where the parts start in a block, and how many words it has */
 enum {

@@ -114,6 +114,11 @@ pub by-choice : {A P : Type 0} (b : Bool) (x y z : A) → (b ≡ true → x ≡ 
 by-choice true x y z f g e = f refl e
 by-choice false x y z f g e = g refl e
 
+-- what each value has where it is chosen, the choice has
+pub of-choice : {A : Type 0} (P : A → Type 0) (t : Bool) (x y : A) → (t ≡ true → P x) → (t ≡ false → P y) → P (if t then x else y)
+of-choice P true x y f g = f refl
+of-choice P false x y f g = g refl
+
 -- ---- answers
 
 -- two answers that are equal have equal values

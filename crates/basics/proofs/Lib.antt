@@ -3,3 +3,4 @@ pub mod Choices
 pub mod Lists
 pub mod Parts
 pub mod Laying
+pub mod Refusals

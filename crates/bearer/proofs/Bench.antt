@@ -1,5 +1,6 @@
 -- The cases of document 01's bench sheet that are marked *, of frames and of both ends, as one table, and one statement: each
--- holds of the definitions. Below them stand bounds that the sheet doesn't name and no other proof pins.
+-- holds of the definitions. Below them stand bounds that the sheet doesn't name, and then the orders of refusals: where two adjacent ones apply,
+-- the first is given.
 -- Assumes nothing.
 use mathlib.Core.Path.{_≡_, refl}
 use mathlib.Core.Bool.{Bool, true, false}
@@ -9,7 +10,7 @@ use lib.ListN.{length, take, drop, replicate}
 use Rattle.basics.specs.Basics.{Outcome, done, refused}
 use Rattle.frame_layout.specs.Frames.{Range, Status, Reading, data-of, status-of, refuse, Written, unwritten, readFrame, writeData, writeStatus}
 use Rattle.bearer.specs.Keeper as K
-use Rattle.bearer.specs.Keeper.{_with-runs_, _with-records_}
+use Rattle.bearer.specs.Keeper.{_with-closed_, _with-runs_, _with-records_}
 use Rattle.bearer.specs.Ledger as G
 use Rattle.bearer.specs.Ledger.{_with-sent_, _with-entries_}
 use Rattle.bearer.specs.Rule.{below}
@@ -36,6 +37,12 @@ pub data Case : Type 0 where
   secondary : Outcome K.Keeper → List Call → ℕ → Case
   -- a PDCP number is sent by a master: the answer
   master : Outcome (G.Ledger Unit) → ℕ → Outcome ℕ → Case
+  -- both ends are opened with L, a first number and a first PDCP number: the refusal
+  not-opened : ℕ → ℕ → ℕ → ℕ → Case
+  -- octets are not accepted by a master: the refusal
+  not-accepted : Outcome (G.Ledger Unit) → List ℕ → ℕ → Case
+  -- nothing is taken from a master: the refusal
+  not-taken : Outcome (G.Ledger Unit) → ℕ → Case
   -- octets are accepted by a master: the desired and the minimum size that it holds afterwards
   sizes : Outcome (G.Ledger Unit) → List ℕ → ℕ → ℕ → Case
 
@@ -79,12 +86,20 @@ Holds (status-frame s frame) = writeStatus s bench ≡ leaves frame
 Holds (octets-read s r) = readFrame s ≡ r
 Holds (secondary k cs base) = Of k (λ o. CallsAnswered o cs base)
 Holds (master l p a) = Of l (λ o. G.send o p tt .answer ≡ a)
+Holds (not-opened L first f n) = (K.openKeeper L first f ≡ refused n) × (G.openLedger {A = Unit} L first f ≡ refused n)
+Holds (not-accepted l s n) = Of l (λ o. G.accept o s .answer ≡ refused n)
+Holds (not-taken l n) = Of l (λ o. G.takeOldest o .answer ≡ refused n)
 Holds (sizes l s desired minimum) = Of l (λ o. (G.accept o s .state .desired ≡ desired) × (G.accept o s .state .minimum ≡ minimum))
 
 -- every case of a table holds
 abbrev pub AllHold : List Case → Type 0
 AllHold [] = Unit
 AllHold (c ∷ cs) = Holds c × AllHold cs
+
+-- every case of every part of a table holds
+abbrev pub PartsHold : List (List Case) → Type 0
+PartsHold [] = Unit
+PartsHold (cs ∷ ps) = AllHold cs × PartsHold ps
 
 -- ---- words of the table
 
@@ -105,23 +120,64 @@ size-octets = 0x00 ∷ 0x01 ∷ 0x00 ∷ 0x00 ∷ 0x00 ∷ 0x00 ∷ 0x10 ∷ 0x0
 abbrev pub over-rollover : List Call → List Call
 over-rollover cs = arrives 65534 4095 (done 0) ∷ arrives 0 1 (done 0) ∷ expires (done 1) ∷ cs
 
+-- so many runs of one number
+abbrev pub runs : ℕ → List Range
+runs n = map (λ (i : ℕ). 2 * i to 2 * i) (below n)
+
 -- a secondary that lists so many runs
 abbrev pub listing : ℕ → K.Keeper
-listing n = K.freshKeeper 12 1000 1 with-runs map (λ (i : ℕ). 2 * i to 2 * i) (below n)
+listing n = K.freshKeeper 12 1000 1 with-runs runs n
+
+-- a secondary of the long form that does
+abbrev pub listing-long : ℕ → K.Keeper
+listing-long n = K.freshKeeper 18 1000 1 with-runs runs n
+
+-- so many records
+abbrev pub records : ℕ → List K.Record
+records n = map (λ (i : ℕ). K.newRecord i i) (below n)
 
 -- a secondary that holds so many records
 abbrev pub recording : ℕ → K.Keeper
-recording n = K.freshKeeper 12 1000 1 with-records map (λ (i : ℕ). K.newRecord i i) (below n)
+recording n = K.freshKeeper 12 1000 1 with-records records n
 
 -- a master that holds so many entries
 abbrev pub holding : ℕ → G.Ledger Unit
 holding n = G.freshLedger {A = Unit} 12 1000 1 with-sent 999 with-entries map (λ (i : ℕ). G.newEntry i i tt) (below n)
 
+-- two ranges of the short form, and a frame that bears them
+abbrev pub two-short : List Range
+two-short = (0x0B0C to 0x0D0E) ∷ (0x0F10 to 0x1112) ∷ []
+
+abbrev pub short-frame : List ℕ
+short-frame = 0x11 ∷ 0x01 ∷ 0x02 ∷ 0x03 ∷ 0x04 ∷ 0x05 ∷ 0x06 ∷ 0x07 ∷ 0x08 ∷ 0x09 ∷ 0x0A ∷ 0x02 ∷ 0x0B ∷ 0x0C ∷ 0x0D ∷ 0x0E ∷ 0x0F ∷ 0x10 ∷ 0x11 ∷ 0x12 ∷ 0 ∷ 0 ∷ []
+
+-- two ranges of the long form, and a frame that bears them
+abbrev pub two-long : List Range
+two-long = (0x0C0D0E to 0x0F1011) ∷ (0x121314 to 0x151617) ∷ []
+
+abbrev pub long-frame : List ℕ
+long-frame = 0x21 ∷ 0x01 ∷ 0x02 ∷ 0x03 ∷ 0x04 ∷ 0x05 ∷ 0x06 ∷ 0x07 ∷ 0x08 ∷ 0x09 ∷ 0x0A ∷ 0x0B ∷ 0x02 ∷ 0x0C ∷ 0x0D ∷ 0x0E ∷ 0x0F ∷ 0x10 ∷ 0x11 ∷ 0x12 ∷ 0x13 ∷ 0x14 ∷ 0x15 ∷ 0x16 ∷ 0x17 ∷ 0 ∷ []
+
+-- seven octets behind the last field of a frame
+abbrev pub extension : List ℕ
+extension = replicate 7 0xFF
+
+-- a closed secondary, and a closed master
+abbrev pub shut : K.Keeper
+shut = K.freshKeeper 12 1000 1 with-closed true
+
+abbrev pub closed : G.Ledger Unit
+closed = G.fresh 12 0 0 true
+
+-- both sizes 0, and the range from 7 to 7, in a frame
+abbrev pub one-range : List ℕ
+one-range = replicate 8 0 ++ (0x01 ∷ 0x00 ∷ 0x07 ∷ 0x00 ∷ 0x07 ∷ 0x00 ∷ 0x00 ∷ [])
+
 -- ---- the table
 
--- the marked cases of the sheet, in its order, and then bounds that it doesn't name
-abbrev pub cases : List Case
-cases =
+-- the marked cases of the sheet, in its order
+abbrev pub sheet : List Case
+sheet =
     data-frame false 4660 (done (0x00 ∷ 0x12 ∷ 0x34 ∷ 0 ∷ 0 ∷ 0 ∷ []))
     ∷ data-frame true 43981 (done (0x30 ∷ 0x00 ∷ 0xAB ∷ 0xCD ∷ 0 ∷ 0 ∷ []))
     ∷ status-frame (telling false 120 65536 4096 ((7 to 9) ∷ [])) (done (0x11 ∷ 0x00 ∷ 0x78 ∷ size-octets ++ (0x01 ∷ 0x00 ∷ 0x07 ∷ 0x00 ∷ 0x09 ∷ 0x00 ∷ 0x00 ∷ [])))
@@ -138,9 +194,12 @@ cases =
     ∷ secondary (K.openKeeper 12 65534 4095) (over-rollover (confirms 0 (done tt) ∷ reports 65536 4096 false (status-of (telling false 4094 65536 4096 ((65535 to 65535) ∷ []))) ∷ [])) 1
     ∷ master (G.openLedger 12 0 0) 2046 (done 0)
     ∷ master (G.openLedger 12 0 0) 2047 (refused 35)
-    -- bounds that the sheet doesn't name
-    -- the X2-U numbers, highest PDCP numbers and counts of ranges that are written
-    ∷ data-frame false 65535 (done (0x00 ∷ 0xFF ∷ 0xFF ∷ 0 ∷ 0 ∷ 0 ∷ []))
+    ∷ []
+
+-- what can be written: the X2-U numbers, highest PDCP numbers and counts of ranges
+abbrev pub written : List Case
+written =
+    data-frame false 65535 (done (0x00 ∷ 0xFF ∷ 0xFF ∷ 0 ∷ 0 ∷ 0 ∷ []))
     ∷ data-frame false 65536 (refused 10)
     ∷ data-frame true 16777215 (done (0x30 ∷ 0xFF ∷ 0xFF ∷ 0xFF ∷ 0 ∷ 0 ∷ []))
     ∷ data-frame true 16777216 (refused 10)
@@ -149,35 +208,150 @@ cases =
     ∷ status-frame (telling true 262144 0 0 []) (refused 4)
     ∷ status-frame (telling false 0 0 0 (replicate 162 (0 to 0))) (done (0x11 ∷ replicate 10 0 ++ (162 ∷ replicate 650 0)))
     ∷ status-frame (telling false 0 0 0 (replicate 163 (0 to 0))) (refused 5)
-    -- lengths and types that are read
-    ∷ octets-read (replicate 2 0) (refuse 1)
+    ∷ []
+
+-- where each octet of a list stands, in both forms
+abbrev pub laid : List Case
+laid =
+    status-frame (telling false 0x0102 0x03040506 0x0708090A two-short) (done short-frame)
+    ∷ octets-read short-frame (status-of (telling false 0x0102 0x03040506 0x0708090A two-short))
+    ∷ status-frame (telling true 0x010203 0x04050607 0x08090A0B two-long) (done long-frame)
+    ∷ octets-read long-frame (status-of (telling true 0x010203 0x04050607 0x08090A0B two-long))
+    ∷ []
+
+-- what is read: lengths and types, and frames of each type with all spare bits set and an extension, which are never looked at
+abbrev pub are-read : List Case
+are-read =
+    octets-read (replicate 2 0) (refuse 1)
     ∷ octets-read (replicate 6 0) (data-of false 0)
     ∷ octets-read (replicate 1018 0) (data-of false 0)
     ∷ octets-read (replicate 1022 0) (refuse 1)
     ∷ octets-read (0xF0 ∷ replicate 5 0) (refuse 2)
-    -- a master holds the two sizes in their order
-    ∷ sizes (G.openLedger 12 0 121) (0x10 ∷ 0x00 ∷ 0x78 ∷ size-octets ++ replicate 3 0) 65536 4096
-    -- the stores of runs, of records and of entries
+    ∷ octets-read (0x0F ∷ 0x12 ∷ 0x34 ∷ extension) (data-of false 4660)
+    ∷ octets-read (0x3F ∷ 0x00 ∷ 0xAB ∷ 0xCD ∷ drop 1 extension) (data-of true 43981)
+    ∷ octets-read (0x1F ∷ 0x00 ∷ 0x78 ∷ size-octets ++ (0x01 ∷ 0x00 ∷ 0x07 ∷ 0x00 ∷ 0x09 ∷ drop 1 extension)) (status-of (record { long = false; final = true; highest = 120; desired = 65536; minimum = 4096; ranges = (7 to 9) ∷ [] }))
+    ∷ octets-read (0x2C ∷ 0x03 ∷ 0xFF ∷ 0xFF ∷ size-octets ++ drop 1 extension) (status-of (telling true 262143 65536 4096 []))
+    ∷ []
+
+-- each L has its circles: 15 bits and the short form, 18 bits and the long one
+abbrev pub circles : List Case
+circles =
+    secondary (K.openKeeper 15 0 0) (arrives 32767 32767 (done 32512) ∷ []) 32512
+    ∷ secondary (K.openKeeper 15 0 0) (arrives 32768 0 (refused 11) ∷ arrives 0 32768 (refused 10) ∷ []) 0
+    ∷ secondary (K.openKeeper 18 0 0) (arrives 8388607 262143 (done 8388352) ∷ []) 8388352
+    ∷ secondary (K.openKeeper 18 0 0) (arrives 8388608 0 (refused 11) ∷ arrives 0 262144 (refused 10) ∷ []) 0
+    ∷ master (G.openLedger 15 0 0) 16382 (done 0)
+    ∷ master (G.openLedger 15 0 0) 16383 (refused 35)
+    ∷ master (G.openLedger 18 0 0) 131070 (done 0)
+    ∷ master (G.openLedger 18 0 0) 131071 (refused 35)
+    ∷ not-opened 15 65536 0 10
+    ∷ not-opened 15 0 32768 10
+    ∷ not-opened 18 16777216 0 10
+    ∷ not-opened 18 0 262144 10
+    ∷ []
+
+-- a master holds the two sizes in their order; the stores of runs, of records and of entries; Final where 162 runs are listed, and 163
+abbrev pub stores : List Case
+stores =
+    sizes (G.openLedger 12 0 121) (0x10 ∷ 0x00 ∷ 0x78 ∷ size-octets ++ replicate 3 0) 65536 4096
     ∷ secondary (done (listing 255)) (arrives 1256 0 (done 1) ∷ []) 1001
     ∷ secondary (done (listing 256)) (arrives 1256 0 (refused 14) ∷ []) 1000
     ∷ secondary (done (recording 511)) (arrives 1000 0 (done 0) ∷ []) 1001
     ∷ secondary (done (recording 512)) (arrives 1000 0 (refused 15) ∷ []) 1000
     ∷ master (done (holding 511)) 1000 (done 1000)
     ∷ master (done (holding 512)) 1000 (refused 36)
+    ∷ secondary (done (listing 162)) (reports 0 0 true (status-of (record { long = false; final = true; highest = 0; desired = 0; minimum = 0; ranges = runs 162 })) ∷ []) 1000
+    ∷ secondary (done (listing 163)) (reports 0 0 true (refuse 22) ∷ []) 1000
     ∷ []
 
--- the last cases, of the stores, hold
-stores-hold : AllHold (drop 31 cases)
-stores-hold = ((refl, refl), ((refl, refl), ((refl, refl), ((refl, refl), (refl, (refl, tt))))))
+-- the orders of reading and writing: where two adjacent refusals apply, the first is given
+abbrev pub frame-orders : List Case
+frame-orders =
+    -- read: 1 before 2, 3 before 4, 4 before 5, 5 before 6
+    octets-read (0x40 ∷ replicate 7 0) (refuse 1)
+    ∷ octets-read (0x10 ∷ 0xFF ∷ 0xFF ∷ replicate 3 0) (refuse 3)
+    ∷ octets-read (0x11 ∷ 0x80 ∷ replicate 12 0) (refuse 4)
+    ∷ octets-read (0x11 ∷ replicate 10 0 ++ (163 ∷ 0 ∷ 0 ∷ [])) (refuse 5)
+    -- write: 4 before 5, 5 before 10, 10 before 20, 20
+    ∷ status-frame (telling false 32768 0 0 (replicate 163 (0 to 0))) (refused 4)
+    ∷ status-frame (telling false 0 0 0 (replicate 163 (65536 to 0))) (refused 5)
+    ∷ status-frame (telling true 0 0 0 (replicate 162 (16777216 to 0))) (refused 10)
+    ∷ status-frame (telling true 0 0 0 (replicate 162 (0 to 0))) (refused 20)
+    ∷ []
 
--- and so do those from the bounds on
-bounds-hold : AllHold (drop 16 cases)
-bounds-hold = (refl, (refl, (refl, (refl, (refl, (refl, (refl, (refl, (refl, (refl, (refl, (refl, (refl, (refl, ((refl, refl), stores-hold)))))))))))))))
+-- those of both opens and of the secondary
+abbrev pub secondary-orders : List Case
+secondary-orders =
+    -- open: 7 before 10, 10
+    not-opened 13 65536 0 7
+    ∷ not-opened 12 65536 0 10
+    -- arrival: 9 before 10, 10 before 11, 11 before 12, 12 before 13, 13 before 14, 14 before 15
+    ∷ secondary (done shut) (arrives 65536 0 (refused 9) ∷ expires (refused 9) ∷ confirms 65536 (refused 9) ∷ []) 1000
+    ∷ secondary (K.openKeeper 12 0 0) (arrives 105536 0 (refused 10) ∷ arrives 40000 4096 (refused 10) ∷ []) 0
+    ∷ secondary (K.openKeeper 12 0 0) (arrives 0 0 (done 0) ∷ arrives 0 0 (refused 11) ∷ []) 1
+    ∷ secondary (done (K.freshKeeper 12 1000 1 with-runs ((33768 to 33768) ∷ []) with-records (K.newRecord 1001 0 ∷ []))) (arrives 1001 0 (refused 12) ∷ []) 1000
+    ∷ secondary (done (listing 256)) (arrives 32768 0 (refused 13) ∷ []) 1000
+    ∷ secondary (done (listing 256 with-records records 512)) (arrives 1256 0 (refused 14) ∷ []) 1000
+    -- expiry: 17 before 14
+    ∷ secondary (done (listing 257)) (expires (refused 17) ∷ []) 1000
+    -- confirm: 10 before 16, 16
+    ∷ secondary (K.openKeeper 12 0 0) (confirms 65536 (refused 10) ∷ confirms 5 (refused 16) ∷ []) 0
+    -- status: 9 before 22, 22 before 20, 20
+    ∷ secondary (done (listing 163 with-closed true)) (reports 0 0 true (refuse 9) ∷ []) 1000
+    ∷ secondary (done (listing-long 163)) (reports 0 0 true (refuse 22) ∷ reports 0 0 false (refuse 20) ∷ []) 1000
+    ∷ []
 
--- and those from both ends' on
-ends-hold : AllHold (drop 7 cases)
-ends-hold = ((refl, refl), ((refl, refl), ((refl, refl), ((refl, refl), ((refl, (refl, refl)), ((refl, (refl, (refl, refl))), ((refl, (refl, (refl, (refl, (refl, refl))))), (refl, (refl, bounds-hold)))))))))
+-- those of the master
+abbrev pub master-orders : List Case
+master-orders =
+    -- send: 9 before 10, 10 before 35, 35 before 36
+    master (done closed) 4096 (refused 9)
+    ∷ master (G.openLedger 12 0 0) 8191 (refused 10)
+    ∷ master (done (holding 512)) 999 (refused 35)
+    -- accept: 9 before 1, 6 before 31, 31 before 32, 32 before 33, 33 before 34, 34
+    ∷ not-accepted (done closed) [] 9
+    ∷ not-accepted (G.openLedger 12 0 0) (0x21 ∷ replicate 11 0 ++ (1 ∷ 0 ∷ [])) 6
+    ∷ not-accepted (G.openLedger 12 0 0) (0x20 ∷ 0x00 ∷ 0x10 ∷ replicate 11 0) 31
+    ∷ not-accepted (G.openLedger 12 0 0) (0x11 ∷ 0x10 ∷ 0x00 ∷ one-range) 32
+    ∷ not-accepted (G.openLedger 12 0 0) (0x11 ∷ 0x00 ∷ 0x09 ∷ one-range) 33
+    ∷ not-accepted (G.openLedger 12 0 0) (0x10 ∷ 0x00 ∷ 0x09 ∷ replicate 11 0) 34
+    -- take: 38
+    ∷ not-taken (done (holding 512)) 38
+    ∷ []
+
+-- all of them, part by part
+abbrev pub cases : List (List Case)
+cases = sheet ∷ written ∷ laid ∷ are-read ∷ circles ∷ stores ∷ frame-orders ∷ secondary-orders ∷ master-orders ∷ []
+
+-- ---- each case holds
+
+sheet-hold : AllHold sheet
+sheet-hold = (refl, (refl, (refl, (refl, (refl, (refl, (refl, ((refl, refl), ((refl, refl), ((refl, refl), ((refl, refl), ((refl, (refl, refl)), ((refl, (refl, (refl, refl))), ((refl, (refl, (refl, (refl, (refl, refl))))), (refl, (refl, tt))))))))))))))))
+
+written-hold : AllHold written
+written-hold = (refl, (refl, (refl, (refl, (refl, (refl, (refl, (refl, (refl, tt)))))))))
+
+laid-hold : AllHold laid
+laid-hold = (refl, (refl, (refl, (refl, tt))))
+
+are-read-hold : AllHold are-read
+are-read-hold = (refl, (refl, (refl, (refl, (refl, (refl, (refl, (refl, (refl, tt)))))))))
+
+circles-hold : AllHold circles
+circles-hold = ((refl, refl), ((refl, (refl, refl)), ((refl, refl), ((refl, (refl, refl)), (refl, (refl, (refl, (refl, ((refl, refl), ((refl, refl), ((refl, refl), ((refl, refl), tt))))))))))))
+
+stores-hold : AllHold stores
+stores-hold = ((refl, refl), ((refl, refl), ((refl, refl), ((refl, refl), ((refl, refl), (refl, (refl, ((refl, refl), ((refl, refl), tt)))))))))
+
+frame-orders-hold : AllHold frame-orders
+frame-orders-hold = (refl, (refl, (refl, (refl, (refl, (refl, (refl, (refl, tt))))))))
+
+secondary-orders-hold : AllHold secondary-orders
+secondary-orders-hold = ((refl, refl), ((refl, refl), ((refl, (refl, (refl, refl))), ((refl, (refl, refl)), ((refl, (refl, refl)), ((refl, refl), ((refl, refl), ((refl, refl), ((refl, refl), ((refl, (refl, refl)), ((refl, refl), ((refl, (refl, refl)), tt))))))))))))
+
+master-orders-hold : AllHold master-orders
+master-orders-hold = (refl, (refl, (refl, (refl, (refl, (refl, (refl, (refl, (refl, (refl, tt))))))))))
 
 -- every case holds
-pub all-hold : AllHold cases
-all-hold = (refl, (refl, (refl, (refl, (refl, (refl, (refl, ends-hold)))))))
+pub all-hold : PartsHold cases
+all-hold = (sheet-hold, (written-hold, (laid-hold, (are-read-hold, (circles-hold, (stores-hold, (frame-orders-hold, (secondary-orders-hold, (master-orders-hold, tt)))))))))

@@ -2,5 +2,7 @@
 pub mod Mapped
 pub mod Elements
 pub mod Rows
+pub mod Some
 pub mod Numbers
 pub mod Lengths
+pub mod RunNumbers

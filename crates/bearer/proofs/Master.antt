@@ -10,3 +10,5 @@ pub mod Applied
 pub mod Accepts
 pub mod AcceptsAny
 pub mod LedgerMeans
+pub mod GivenMarks
+pub mod Given

@@ -1,4 +1,4 @@
--- The secondary's machine: what it means, by way of the same machine on packet indexes.
+-- The secondary's machine: what it means, and what each call answers, by way of the same machine on packet indexes.
 pub mod Index
 pub mod ImageState
 pub mod Image
@@ -6,11 +6,16 @@ pub mod ImageStatus
 pub mod Open
 pub mod Gaps
 pub mod Runs
+pub mod RunsIn
 pub mod Follows
 pub mod GivenUp
 pub mod FollowsArrival
 pub mod FollowsExpiry
 pub mod FollowsStatus
+pub mod Accounts
+pub mod Floor
 pub mod FollowsMeans
 pub mod KeeperMeans
 pub mod StatusesFit
+pub mod Sentences
+pub mod Given

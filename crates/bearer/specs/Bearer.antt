@@ -1,7 +1,9 @@
 -- What both ends of a bearer share: document 01's limits, and what a call leaves.
 -- Assumes nothing.
+use mathlib.Core.Path.{_≡_}
+use mathlib.Core.Bool.{false}
 use Prim.Native.Nat.{ℕ}
-use Rattle.basics.specs.Basics.{Outcome, done, refused}
+use Rattle.basics.specs.Basics.{Outcome, done, refused, isDone}
 
 -- ---- document 01's limits
 
@@ -27,6 +29,10 @@ mostEntries = 512
 pub record After (S A : Type 0) : Type 0 where
   pub answer : Outcome A
   pub state : S
+
+-- a call that is refused leaves the state that was there
+pub record Keeps {S A : Type 0} (s : S) (a : After S A) : Type 0 where
+  pub same : isDone (a .answer) ≡ false → a .state ≡ s
 
 -- a refusal answers its number, and leaves the state as it was
 abbrev pub refusing : {S A : Type 0} → ℕ → S → After S A

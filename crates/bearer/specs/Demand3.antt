@@ -15,15 +15,16 @@ use mathlib.Core.Bool.{Bool, true, false}
 use mathlib.Core.List.{List, [], _∷_, _++_, map}
 use mathlib.Core.Logic.{_⊎_, _↔_}
 use Prim.Native.Nat.{ℕ, _+_, _-_, _^_, _≤_, _<_}
+use lib.Dec.{ltb}
 use lib.ListN.{length, getD, take}
 use Rattle.basics.specs.Basics.{Outcome, done, refused, isDone}
 use Rattle.circle.specs.Lengths.{half}
 use Rattle.frame_layout.specs.Frames.{Range, Reading, data-of, status-of, refuse, readFrame}
 use Rattle.bearer.specs.Keeper as K
 use Rattle.bearer.specs.Ledger as G
-use Rattle.bearer.specs.Rule.{isOpen, arrival}
+use Rattle.bearer.specs.Rule.{isOpen, Lowest, arrival}
 use Rattle.bearer.specs.Packets.{numberOf, inRanges, Rising, In}
-use Rattle.bearer.specs.World.{Event, Built, World, freshWorld, inFlight, step, send, copy, stray, expire, confirm, status, deliver, other, take-one}
+use Rattle.bearer.specs.World.{Event, Built, World, freshWorld, inFlight, hadFinal, step, send, copy, stray, expire, confirm, status, deliver, other, take-one, open-secondary, open-master}
 
 -- ---- what is assumed
 
@@ -33,20 +34,23 @@ pub record OpenedAlike (L first f : ℕ) (w : World) : Type 0 where
   pub master : G.openLedger L first f ≡ done (w .ledger)
   pub nothing-yet : w ≡ freshWorld (w .keeper) (w .ledger)
 
--- "packets dropped, repeated or overtaken but not altered, and no copy arrive after half the number space has been sent behind
+-- "Let packets be dropped, repeated or overtaken but not altered, and no copy arrive after half the number space has been sent behind
 -- it": a copy is of a packet that was sent, and fewer than M/2 were sent after it. Numbers that are no packet's reach the
--- secondary only where it refuses them with 9 or 10. "let status frames arrive unchanged, once, in the order built": that is
--- what deliver does; other octets are such as the master refuses. Sizes are numbers of 32 bits. Everything else may happen at any time.
+-- secondary only where it refuses them. "let status frames arrive unchanged, once, in the order built": that is
+-- what deliver does; other octets are such as the master refuses. An end is opened again only where that is refused. Sizes are numbers of 32
+-- bits. Everything else may happen at any time.
 abbrev pub Allowed : ℕ → World → Event → Type 0
 Allowed L w (send p) = Unit
 Allowed L w (copy i) = (i < length (w .sent)) × (length (w .sent) ≤ i + half L)
-Allowed L w (stray n p) = (K.arrive (w .keeper) n p .answer ≡ refused 9) ⊎ (K.arrive (w .keeper) n p .answer ≡ refused 10)
+Allowed L w (stray n p) = isDone (K.arrive (w .keeper) n p .answer) ≡ false
 Allowed L w expire = Unit
 Allowed L w (confirm n) = Unit
 Allowed L w (status d m final buffer) = (d < 2 ^ 32) × (m < 2 ^ 32)
 Allowed L w deliver = Unit
 Allowed L w (other o) = isDone (G.accept (w .ledger) o .answer) ≡ false
 Allowed L w take-one = Unit
+Allowed L w (open-secondary bits n f) = isDone (K.openKeeper bits n f) ≡ false
+Allowed L w (open-master bits n f) = isDone (G.openLedger {A = ℕ} bits n f) ≡ false
 
 -- a list of events, each allowed when it happens
 abbrev pub AllAllowed : ℕ → ℕ → World → List Event → Type 0
@@ -105,17 +109,25 @@ Deserved L w i = In i (confirmedThen w) × ((j : ℕ) → j < i → In j (confir
 abbrev pub FreedExactly : ℕ → World → Type 0
 FreedExactly L w = (i : ℕ) → In i (w .freed) ↔ Deserved L w i
 
--- what a copy is answered: how many became lost, if the packet is open; else that it is late or has a record
-abbrev pub Answered : Bool → ℕ → Outcome ℕ → Type 0
-Answered true c a = a ≡ done c
-Answered false c a = (a ≡ refused 11) ⊎ (a ≡ refused 12)
+-- what a copy is answered: how many became lost, if the packet is open; else that it is late, if it lies before base, and that it has a
+-- record, if it doesn't
+abbrev pub Answered : Bool → Bool → ℕ → Outcome ℕ → Type 0
+Answered true before c a = a ≡ done c
+Answered false true c a = a ≡ refused 11
+Answered false false c a = a ≡ refused 12
 
--- while the secondary is open it takes each copy of an open packet, answers how many our rule declares lost by it, and refuses any other copy
--- as late or recorded already: 13, 14 and 15 are never given
+-- until the secondary has built a frame with Final it takes each copy of an open packet and answers how many our rule declares lost by it; it
+-- refuses any other copy with 11 if the packet lies before base (every lost one does) and with 12 if not: 13, 14 and 15 are never given
 abbrev pub CopiesAnswered : ℕ → ℕ → World → Type 0
 CopiesAnswered L first w =
-    w .keeper .closed ≡ false → (i : ℕ) → Allowed L w (copy i)
-    → Answered (isOpen (w .fates) i) (length (arrival (w .fates) i .lost) - length (w .fates .lost)) (K.arrive (w .keeper) (numberOf L first i) (getD (w .sent) i 0) .answer)
+    hadFinal (w .built) ≡ false → (i base : ℕ) → Allowed L w (copy i) → Lowest (w .fates) base
+    → Answered (isOpen (w .fates) i) (ltb i base) (length (arrival (w .fates) i .lost) - length (w .fates .lost))
+    (K.arrive (w .keeper) (numberOf L first i) (getD (w .sent) i 0) .answer)
+
+-- "Final closes this end": the secondary is closed exactly if it has built a frame with Final, and the master exactly if it has accepted one
+pub record FinalCloses (secondary-closed master-closed : Bool) (built : List Built) (delivered : ℕ) : Type 0 where
+  pub secondary : secondary-closed ≡ hadFinal built
+  pub master : master-closed ≡ hadFinal (take delivered built)
 
 -- what holds of a world
 pub record Kept (L first : ℕ) (w : World) : Type 0 where
@@ -123,6 +135,7 @@ pub record Kept (L first : ℕ) (w : World) : Type 0 where
   pub accepted : Accepts w (inFlight w)
   pub freed-exactly : FreedExactly L w
   pub copies-answered : CopiesAnswered L first w
+  pub final-closes : FinalCloses (w .keeper .closed) (w .ledger .closed) (w .built) (w .delivered)
 
 -- ---- the statement
 

@@ -11,7 +11,7 @@ use lib.Dec.{ltb, leb, eqb}
 use lib.ListN.{length, getD, take, drop, set}
 use Rattle.circle.specs.Circle.{forward}
 use Rattle.basics.specs.Basics.{if_then_else_, _and_, _or_, Outcome, done, refused}
-use Rattle.frame_layout.specs.Frames.{Range, Status, Written, mostRanges, startsOf, endsOf, writeStatus}
+use Rattle.frame_layout.specs.Frames.{Range, Status, Written, mostRanges, startsOf, writeStatus}
 use Rattle.bearer.specs.Bearer.{window, mostRuns, mostRecords, After, refusing, answering}
 use Rattle.circle.specs.Lengths.{isLength, isLong, modulusOf, half, pdcps, pdcpBefore}
 use Rattle.bearer.specs.Losses.{beforeBase, floorBehind, placeIn, bearsBefore, topOf, offsets, aboveBase, Gap, lostBelow, sizeOf, lowest, raisedBase, newRuns, withRuns, goesBefore}
@@ -100,10 +100,6 @@ held k = numbersOf (k .records)
 -- the starts of the listed runs
 abbrev pub starts : Keeper → List ℕ
 starts k = startsOf (k .runs)
-
--- the ends of the listed runs
-abbrev pub ends : Keeper → List ℕ
-ends k = endsOf (k .runs)
 
 -- forward from floor to base: floor is the earliest of base, the listed numbers and the numbers with records
 abbrev pub floor : Keeper → ℕ
@@ -210,10 +206,14 @@ noRecord = record { number = 0; pdcp = 0; confirmed = false }
 abbrev pub delivered : Record → Record
 delivered r = record { number = r .number; pdcp = r .pdcp; confirmed = true }
 
--- the record of n at the place i: 16 where n isn't before base or is confirmed already
+-- the record of n at the place i isn't to be confirmed: n isn't before base, or it is confirmed already
+abbrev pub notNow : Keeper → ℕ → ℕ → Bool
+notNow k n i = not (beforeBase (modulusOf (k .bits)) (k .base) n) or getD (k .records) i noRecord .confirmed
+
+-- the record of n at the place i: 16, or it is marked
 abbrev pub confirmAt : Keeper → ℕ → ℕ → After Keeper Unit
 confirmAt k n i =
-    if not (beforeBase (modulusOf (k .bits)) (k .base) n) or getD (k .records) i noRecord .confirmed then refusing 16 k else
+    if notNow k n i then refusing 16 k else
     answering tt (k with-records set (k .records) i (delivered (getD (k .records) i noRecord)))
 
 -- confirm of a number: 9, 10, 16, or its record is marked
@@ -279,9 +279,13 @@ stateBy k final (refused n) = k
 abbrev pub reportedAs : Keeper → Bool → Written → Reported
 reportedAs k final w = record { answer = w .answer; state = stateBy k final (w .answer); buffer = w .buffer }
 
--- a status: 9, 22, and then as the writer answers (20; 4 and 10 only in states that no calls reach: `StatusesFit` of KeeperMeaning.antt)
+-- Final is asked while more runs are listed than a status carries
+abbrev pub finalTooEarly : Keeper → Bool → Bool
+finalTooEarly k final = final and ltb mostRanges (length (k .runs))
+
+-- a status: 9, 22, and then as the writer answers (20; 4 and 10 only in states that no calls reach: `SecondaryGiven` of Refusals.antt)
 abbrev pub status : Keeper → ℕ → ℕ → Bool → List ℕ → Reported
 status k desired minimum final d =
     if k .closed then unreported 9 k d else
-    if final and ltb mostRanges (length (k .runs)) then unreported 22 k d else
+    if finalTooEarly k final then unreported 22 k d else
     reportedAs k final (writeStatus (statusNow k desired minimum final) d)

@@ -228,12 +228,16 @@ acceptMarked l s (some m) =
     (countsOf s (freed l (s .highest) (m .entries) .count) (m .count))
     (acceptedState l s (freed l (s .highest) (m .entries) .entries))
 
+-- what a status' ranges make of the entries
+abbrev pub marking : {A : Type 0} → Ledger A → Status → Option (Passed A)
+marking l s = markLost (l .bits) (l .entries) (s .ranges)
+
 -- a status of either form: 31, 32, and then its ranges and its highest
 abbrev pub acceptStatus : {A : Type 0} → Ledger A → Status → After (Ledger A) Accepted
 acceptStatus l s =
     if not (alike (s .long) (isLong (l .bits))) then refusing 31 l else
     if leb (pdcps (l .bits)) (s .highest) then refusing 32 l else
-    acceptMarked l s (markLost (l .bits) (l .entries) (s .ranges))
+    acceptMarked l s (marking l s)
 
 -- what was read: its refusal, 31 for a data frame, or a status
 abbrev pub acceptReading : {A : Type 0} → Ledger A → Reading → After (Ledger A) Accepted

@@ -5,60 +5,124 @@
 use mathlib.Core.Path.{_≡_}
 use mathlib.Core.Bool.{true, false, not, Bool}
 use mathlib.Core.List.{List, [], _∷_, _++_, map}
-use Prim.Native.Nat.{ℕ, suc, _+_, _/_, _≤_, _<_}
+use Prim.Native.Nat.{ℕ, suc, _+_, _/_, _^_, _≤_, _<_}
 use lib.ListN.{length, getD}
 use Rattle.basics.specs.Basics.{if_then_else_, done, _or_}
 use Rattle.circle.specs.Circle.{forward}
 use Rattle.circle.specs.Lengths.{pdcps}
 use Rattle.frame_layout.specs.Frames.{Status, status-of, readFrame}
-use Rattle.bearer.specs.Bearer.{mostEntries}
-use Rattle.bearer.specs.Ledger.{Entry, Ledger, Accepted, Taken, takenOf, waits, asLost, openLedger, send, accept, takeOldest}
-use Rattle.bearer.specs.Packets.{numberOf, packets, Rising, In, inRanges, Each}
+use Rattle.bearer.specs.Ledger.{waiting, lost, Entry, Ledger, Accepted, Taken, openLedger, send, accept, takeOldest}
+use Rattle.bearer.specs.Packets.{numberOf, oneBefore, lastOf, packets, Rising, In, inRanges, Each}
 
--- A ledger that calls reach from open, with the PDCP numbers of the accepted sends, and how many were freed and taken, added up
--- from the answers. A status is any octets. Refused calls leave the ledger (the machine says so), so they are no steps here.
-pub data LedgerReached (L first f : ℕ) : Ledger ℕ → List ℕ → ℕ → ℕ → Type 0 where
+-- A master's end by its accepted calls: the PDCP numbers of the sends (packet i is the i-th of them), how many were freed and taken, added up
+-- from the answers, the highest and both sizes of the last status, and whether one had Final.
+pub record Books : Type 0 where
+  pub sent : List ℕ
+  pub freed : ℕ
+  pub taken : ℕ
+  pub highest : ℕ
+  pub desired : ℕ
+  pub minimum : ℕ
+  pub final : Bool
+
+-- "H is the highest last accepted, f - 1 at first", and nothing has happened yet
+abbrev pub begun : ℕ → ℕ → Books
+begun L f = record {
+  sent = [];
+  freed = 0;
+  taken = 0;
+  highest = oneBefore L f;
+  desired = 0;
+  minimum = 0;
+  final = false;
+}
+
+-- books whose parts are put anew; beside begun ones, the one place that says every field
+abbrev pub changed : List ℕ → ℕ → ℕ → ℕ → ℕ → ℕ → Bool → Books
+changed sent freed taken highest desired minimum final = record {
+  sent = sent;
+  freed = freed;
+  taken = taken;
+  highest = highest;
+  desired = desired;
+  minimum = minimum;
+  final = final;
+}
+
+-- a PDCP number more was sent
+abbrev pub sending : Books → ℕ → Books
+sending b p = changed (b .sent ++ (p ∷ [])) (b .freed) (b .taken) (b .highest) (b .desired) (b .minimum) (b .final)
+
+-- a status was accepted, which freed so many: "Both sizes replace the former ones. Final closes this end."
+abbrev pub accepting : Books → Status → ℕ → Books
+accepting b s freed = changed (b .sent) (b .freed + freed) (b .taken) (s .highest) (s .desired) (s .minimum) (s .final)
+
+-- an entry was taken
+abbrev pub taking : Books → Books
+taking b = changed (b .sent) (b .freed) (b .taken + 1) (b .highest) (b .desired) (b .minimum) (b .final)
+
+-- "the last PDCP number sent starts there too"
+abbrev pub lastSent : ℕ → ℕ → Books → ℕ
+lastSent L f b = lastOf (oneBefore L f) (b .sent)
+
+-- A ledger that calls reach from open, with the books of them. A status is any octets. Refused calls leave the ledger (`MasterKeeps` of
+-- Refusals.antt), so they are no steps here.
+pub data LedgerReached (L first f : ℕ) : Ledger ℕ → Books → Type 0 where
   -- a fresh end
-  opened : {l : Ledger ℕ} → openLedger L first f ≡ done l → LedgerReached L first f l [] 0 0
+  opened : {l : Ledger ℕ} → openLedger L first f ≡ done l → LedgerReached L first f l (begun L f)
   -- a packet was sent
-  sending : {l : Ledger ℕ} {sent : List ℕ} {freed taken : ℕ} (p n : ℕ) → LedgerReached L first f l sent freed taken
-      → send l p (length sent) .answer ≡ done n → LedgerReached L first f (send l p (length sent) .state) (sent ++ (p ∷ [])) freed taken
-  -- octets were accepted
-  accepting : {l : Ledger ℕ} {sent : List ℕ} {freed taken : ℕ} (octets : List ℕ) (a : Accepted) → LedgerReached L first f l sent freed taken
-      → accept l octets .answer ≡ done a → LedgerReached L first f (accept l octets .state) sent (freed + a .freed) taken
+  sends : {l : Ledger ℕ} {b : Books} (p n : ℕ) → LedgerReached L first f l b → send l p (length (b .sent)) .answer ≡ done n
+      → LedgerReached L first f (send l p (length (b .sent)) .state) (sending b p)
+  -- octets were accepted, which are those of a status
+  accepts : {l : Ledger ℕ} {b : Books} (octets : List ℕ) (s : Status) (a : Accepted) → LedgerReached L first f l b → readFrame octets ≡ status-of s
+      → accept l octets .answer ≡ done a → LedgerReached L first f (accept l octets .state) (accepting b s (a .freed))
   -- an entry was taken
-  taking : {l : Ledger ℕ} {sent : List ℕ} {freed taken : ℕ} (t : Taken) → LedgerReached L first f l sent freed taken
-      → takeOldest l .answer ≡ done t → LedgerReached L first f (takeOldest l .state) sent freed (taken + 1)
+  takes : {l : Ledger ℕ} {b : Books} (t : Taken) → LedgerReached L first f l b → takeOldest l .answer ≡ done t
+      → LedgerReached L first f (takeOldest l .state) (taking b)
+
+-- an entry's fate is waiting; said here again on purpose, as the machine's own test must not move what is said of it
+abbrev pub isWaiting : Entry ℕ → Bool
+isWaiting e = elim (e .fate) [ waiting ↦ true | lost ↦ false ]
 
 -- the entries that wait
 abbrev pub waitingIn : List (Entry ℕ) → List (Entry ℕ)
 waitingIn [] = []
-waitingIn (e ∷ es) = if waits e then e ∷ waitingIn es else waitingIn es
+waitingIn (e ∷ es) = if isWaiting e then e ∷ waitingIn es else waitingIn es
 
 -- the entries that are lost
 abbrev pub lostIn : List (Entry ℕ) → List (Entry ℕ)
 lostIn [] = []
-lostIn (e ∷ es) = if waits e then lostIn es else e ∷ lostIn es
+lostIn (e ∷ es) = if isWaiting e then lostIn es else e ∷ lostIn es
+
+-- forward from H to a PDCP number
+abbrev pub fromHighest : ℕ → ℕ → ℕ → ℕ
+fromHighest L h p = forward (2 ^ L) h p
 
 -- forward from H to an entry's PDCP number
 abbrev pub pastHighest : ℕ → Ledger ℕ → Entry ℕ → ℕ
-pastHighest L l e = forward (pdcps L) (l .highest) (e .pdcp)
+pastHighest L l e = fromHighest L (l .highest) (e .pdcp)
 
 -- ---- what a ledger means
 
--- What a ledger means: sent are the PDCP numbers of the accepted sends, so many packets were freed, and so many taken.
-pub record LedgerMeans (L first : ℕ) (l : Ledger ℕ) (sent : List ℕ) (freed taken : ℕ) : Type 0 where
+-- What a ledger means, by its books.
+pub record LedgerMeans (L first f : ℕ) (l : Ledger ℕ) (b : Books) : Type 0 where
   -- the bearer's L
   pub same-length : l .bits ≡ L
+  -- H, the last PDCP number sent and both sizes are the books'; the end is closed exactly if an accepted frame had Final
+  pub highest-is : l .highest ≡ b .highest
+  pub last-is : l .sent ≡ lastSent L f b
+  pub desired-is : l .desired ≡ b .desired
+  pub minimum-is : l .minimum ≡ b .minimum
+  pub closed-is : l .closed ≡ b .final
   -- "Each accepted send is now waiting, lost, freed or taken": the four counts sum to the accepted sends
-  pub sum : length (waitingIn (l .entries)) + length (lostIn (l .entries)) + freed + taken ≡ length sent
+  pub sum : length (waitingIn (l .entries)) + length (lostIn (l .entries)) + b .freed + b .taken ≡ length (b .sent)
   -- entries stand in sending order, and each bears its packet's two numbers
   pub in-order : Rising (packets (l .entries))
-  pub were-sent : Each (λ (e : Entry ℕ). e .label < length sent) (l .entries)
+  pub were-sent : Each (λ (e : Entry ℕ). e .label < length (b .sent)) (l .entries)
   pub numbered : Each (λ (e : Entry ℕ). e .number ≡ numberOf L first (e .label)) (l .entries)
-  pub pdcps-are : Each (λ (e : Entry ℕ). e .pdcp ≡ getD sent (e .label) 0) (l .entries)
+  pub pdcps-are : Each (λ (e : Entry ℕ). e .pdcp ≡ getD (b .sent) (e .label) 0) (l .entries)
   -- "Numbers go out consecutively modulo M": the next one is the next packet's
-  pub next-is : l .next ≡ numberOf L first (length sent)
+  pub next-is : l .next ≡ numberOf L first (length (b .sent))
   -- forward from H the waiting entries' PDCP numbers strictly rise, each more than 0 and less than 2^(L-1): they are distinct, and none is H
   pub pdcps-rise : Rising (map (pastHighest L l) (waitingIn (l .entries)))
   pub past-highest : Each (λ (e : Entry ℕ). 0 < pastHighest L l e) (waitingIn (l .entries))
@@ -67,22 +131,22 @@ pub record LedgerMeans (L first : ℕ) (l : Ledger ℕ) (sent : List ℕ) (freed
   pub span : (i j : ℕ) → In i (packets (waitingIn (l .entries))) → In j (packets (waitingIn (l .entries))) → suc j < i + pdcps L / 2
   pub one-number : (i j : ℕ) → In i (packets (waitingIn (l .entries))) → In j (packets (waitingIn (l .entries))) → numberOf L first i ≡ numberOf L first j → i ≡ j
   -- the store's limit
-  pub most : length (l .entries) ≤ mostEntries
+  pub most : length (l .entries) ≤ 512
 
 -- ---- what an accepted status means
 
 -- Waiting entries turned lost, and their numbers in sending order. Every other entry is as it was, a lost one of the same number too.
 pub data TurnedLost : List ℕ → List (Entry ℕ) → List (Entry ℕ) → Type 0 where
   turned-end : TurnedLost [] [] []
-  turns : {ns : List ℕ} {es ds : List (Entry ℕ)} (e : Entry ℕ) → waits e ≡ true → TurnedLost ns es ds → TurnedLost (e .number ∷ ns) (e ∷ es) (asLost e ∷ ds)
+  turns : {ns : List ℕ} {es ds : List (Entry ℕ)} (e : Entry ℕ) → isWaiting e ≡ true → TurnedLost ns es ds → TurnedLost (e .number ∷ ns) (e ∷ es) (record { number = e .number; pdcp = e .pdcp; fate = lost; label = e .label } ∷ ds)
   as-it-was : {ns : List ℕ} {es ds : List (Entry ℕ)} (e : Entry ℕ) → TurnedLost ns es ds → TurnedLost ns (e ∷ es) (e ∷ ds)
 
 -- The waiting entries through packet g left; every other entry is as it was.
 pub data FreedThrough (g : ℕ) : List (Entry ℕ) → List (Entry ℕ) → Type 0 where
   freed-end : FreedThrough g [] []
-  goes : {es ds : List (Entry ℕ)} (e : Entry ℕ) → waits e ≡ true → e .label ≤ g → FreedThrough g es ds → FreedThrough g (e ∷ es) ds
-  later : {es ds : List (Entry ℕ)} (e : Entry ℕ) → waits e ≡ true → g < e .label → FreedThrough g es ds → FreedThrough g (e ∷ es) (e ∷ ds)
-  is-lost : {es ds : List (Entry ℕ)} (e : Entry ℕ) → waits e ≡ false → FreedThrough g es ds → FreedThrough g (e ∷ es) (e ∷ ds)
+  goes : {es ds : List (Entry ℕ)} (e : Entry ℕ) → isWaiting e ≡ true → e .label ≤ g → FreedThrough g es ds → FreedThrough g (e ∷ es) ds
+  later : {es ds : List (Entry ℕ)} (e : Entry ℕ) → isWaiting e ≡ true → g < e .label → FreedThrough g es ds → FreedThrough g (e ∷ es) (e ∷ ds)
+  is-lost : {es ds : List (Entry ℕ)} (e : Entry ℕ) → isWaiting e ≡ false → FreedThrough g es ds → FreedThrough g (e ∷ es) (e ∷ ds)
 
 -- "A highest equal to H frees none"; else it is the PDCP number of a packet that still waits, and frees through that one
 pub data FreedBy (sent : List ℕ) (H h : ℕ) (es ds : List (Entry ℕ)) : Type 0 where
@@ -101,32 +165,28 @@ pub record StatusMeans (L : ℕ) (sent : List ℕ) (l : Ledger ℕ) (octets : Li
   -- "then every waiting entry from the oldest through the one whose PDCP number is the frame's highest is freed and leaves": so many
   pub are-freed : FreedBy sent (l .highest) (frame .highest) applied (accept l octets .state .entries)
   pub freed-count : a .freed + length (accept l octets .state .entries) ≡ length (l .entries)
-  -- H is the frame's highest from then on; "Both sizes replace the former ones. Final closes this end."
-  pub highest-is : accept l octets .state .highest ≡ frame .highest
-  pub desired-is : accept l octets .state .desired ≡ frame .desired
-  pub minimum-is : accept l octets .state .minimum ≡ frame .minimum
-  pub final-closes : accept l octets .state .closed ≡ frame .final
+  -- "The answer is how many were freed, how many became lost, and Final."
+  pub final-is : a .final ≡ frame .final
 
 -- ---- what an accepted take means
 
 -- "Take removes the oldest lost entry and answers its two numbers. Once closed it takes the oldest entry, lost or waiting."
 pub data TakenFrom (closed : Bool) (t : Taken) : List (Entry ℕ) → List (Entry ℕ) → Type 0 where
-  this-one : (e : Entry ℕ) (es : List (Entry ℕ)) → closed or not (waits e) ≡ true → t ≡ takenOf e → TakenFrom closed t (e ∷ es) es
-  passes-over : {es ds : List (Entry ℕ)} (e : Entry ℕ) → closed ≡ false → waits e ≡ true → TakenFrom closed t es ds → TakenFrom closed t (e ∷ es) (e ∷ ds)
+  this-one : (e : Entry ℕ) (es : List (Entry ℕ)) → closed or not (isWaiting e) ≡ true → t ≡ record { number = e .number; pdcp = e .pdcp } → TakenFrom closed t (e ∷ es) es
+  passes-over : {es ds : List (Entry ℕ)} (e : Entry ℕ) → closed ≡ false → isWaiting e ≡ true → TakenFrom closed t es ds → TakenFrom closed t (e ∷ es) (e ∷ ds)
 
 -- ---- the statements
 
 -- every ledger that calls reach
 abbrev pub LedgersMean : Type 0
-LedgersMean =
-    (L first f : ℕ) (l : Ledger ℕ) (sent : List ℕ) (freed taken : ℕ) → LedgerReached L first f l sent freed taken
-    → LedgerMeans L first l sent freed taken
+LedgersMean = (L first f : ℕ) (l : Ledger ℕ) (b : Books) → LedgerReached L first f l b → LedgerMeans L first f l b
 
--- every number that such a ledger gives out is the next packet's
+-- "Send .. adds a waiting entry and answers its X2-U number": those of the next packet
 abbrev pub SendsMean : Type 0
 SendsMean =
-    (L first f : ℕ) (l : Ledger ℕ) (sent : List ℕ) (freed taken : ℕ) → LedgerReached L first f l sent freed taken
-    → (p n : ℕ) → send l p (length sent) .answer ≡ done n → n ≡ numberOf L first (length sent)
+    (L first f : ℕ) (l : Ledger ℕ) (b : Books) → LedgerReached L first f l b → (p n : ℕ) → send l p (length (b .sent)) .answer ≡ done n
+    → (n ≡ numberOf L first (length (b .sent)))
+    × (send l p (length (b .sent)) .state .entries ≡ l .entries ++ (record { number = n; pdcp = p; fate = waiting; label = length (b .sent) } ∷ []))
 
 -- every take, whatever the ledger
 abbrev pub TakesMean : Type 0
@@ -135,5 +195,5 @@ TakesMean = (l : Ledger ℕ) (t : Taken) → takeOldest l .answer ≡ done t →
 -- every status that such a ledger accepts
 abbrev pub StatusesMean : Type 0
 StatusesMean =
-    (L first f : ℕ) (l : Ledger ℕ) (sent : List ℕ) (freed taken : ℕ) → LedgerReached L first f l sent freed taken
-    → (octets : List ℕ) (a : Accepted) → accept l octets .answer ≡ done a → StatusMeans L sent l octets a
+    (L first f : ℕ) (l : Ledger ℕ) (b : Books) → LedgerReached L first f l b → (octets : List ℕ) (a : Accepted) → accept l octets .answer ≡ done a
+    → StatusMeans L (b .sent) l octets a

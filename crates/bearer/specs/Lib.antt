@@ -4,7 +4,9 @@ pub mod Keeper
 pub mod Ledger
 pub mod Rule
 pub mod Packets
+pub mod Account
 pub mod World
 pub mod Demand3
 pub mod KeeperMeaning
 pub mod LedgerMeaning
+pub mod Refusals

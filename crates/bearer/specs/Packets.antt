@@ -4,7 +4,7 @@
 use mathlib.Core.Path.{_≡_}
 use mathlib.Core.Bool.{true}
 use mathlib.Core.List.{List, [], _∷_, _++_, map}
-use Prim.Native.Nat.{ℕ, zero, suc, _+_, _%_, _<_}
+use Prim.Native.Nat.{ℕ, zero, suc, _+_, _-_, _%_, _^_, _<_}
 use Rattle.circle.specs.Circle.{forward}
 use Rattle.circle.specs.Lengths.{modulusOf}
 use Rattle.frame_layout.specs.Frames.{Range}
@@ -28,11 +28,24 @@ abbrev pub Each : {A : Type 0} → (A → Type 0) → List A → Type 0
 Each P [] = Unit
 Each P (x ∷ xs) = P x × Each P xs
 
+-- the last of a list; another where there is none
+abbrev pub lastOf : ℕ → List ℕ → ℕ
+lastOf p [] = p
+lastOf p (q ∷ qs) = lastOf q qs
+
 -- ---- their numbers
 
 -- the X2-U number of a packet
 abbrev pub numberOf : ℕ → ℕ → ℕ → ℕ
 numberOf L first i = (first + i) % modulusOf L
+
+-- f - 1 modulo 2^L, worked without going below zero; written here again on purpose: an edit of the machines' must not move the rule
+abbrev pub oneBefore : ℕ → ℕ → ℕ
+oneBefore L f = (f + (2 ^ L - 1)) % 2 ^ L
+
+-- forward from a packet's number to another number
+abbrev pub forwardFrom : ℕ → ℕ → ℕ → ℕ → ℕ
+forwardFrom L first i n = forward (modulusOf L) (numberOf L first i) n
 
 -- the packets of entries
 abbrev pub packets : List (G.Entry ℕ) → List ℕ

@@ -1,9 +1,10 @@
 -- The secondary's rule in document 01's own sentences, on packet indexes: packet 0 is the first one sent, 1 the next, and
 -- indexes never roll over. No definition of the machines is used here.
 -- Assumes nothing.
-use mathlib.Core.Bool.{Bool, false, not}
+use mathlib.Core.Path.{_≡_}
+use mathlib.Core.Bool.{Bool, true, false, not}
 use mathlib.Core.List.{List, [], _∷_, _++_}
-use Prim.Native.Nat.{ℕ, zero, suc, _-_, max}
+use Prim.Native.Nat.{ℕ, zero, suc, _-_, _<_, max}
 use lib.Dec.{eqb}
 use Rattle.basics.specs.Basics.{if_then_else_, _and_, _or_}
 
@@ -24,6 +25,11 @@ isIn i (x ∷ xs) = eqb i x or isIn i xs
 -- neither received nor lost
 abbrev pub isOpen : Fates → ℕ → Bool
 isOpen r i = not (isIn i (r .received)) and not (isIn i (r .lost))
+
+-- "Base is the lowest open number.": a packet is open, and none before it
+pub record Lowest (r : Fates) (i : ℕ) : Type 0 where
+  pub open-itself : isOpen r i ≡ true
+  pub none-below : (j : ℕ) → j < i → isOpen r j ≡ false
 
 -- the packets below n, in sending order
 abbrev pub below : ℕ → List ℕ
@@ -51,7 +57,7 @@ receive r i = record { received = i ∷ r .received; lost = r .lost }
 abbrev pub farBelow : ℕ
 farBelow = 256
 
--- "Arrival adds a record, then declares lost each open number that is 256 or more below the arrival." A packet that is
+-- "Arrival of number and PDCP number adds a record, then declares lost each open number that is 256 or more below the arrival." A packet that is
 -- received or lost already stays what it is.
 abbrev pub arrival : Fates → ℕ → Fates
 arrival r i = if isOpen r i then declare (receive r i) (suc i - farBelow) else r

@@ -2,12 +2,13 @@
 -- demand 3 speaks of (Demand3.antt). The two ends are the very machines that the engines' contracts cite (Keeper.antt, Ledger.antt), at
 -- document 01's constants; the written rule is Rule.antt.
 -- Assumes nothing.
-use mathlib.Core.Bool.{Bool}
+use mathlib.Core.Bool.{Bool, false}
 use mathlib.Core.List.{List, [], _∷_, _++_}
 use Prim.Native.Nat.{ℕ, suc, max}
 use lib.Dec.{eqb}
 use lib.ListN.{length, getD, take, drop}
-use Rattle.basics.specs.Basics.{if_then_else_, Outcome, done, refused, isDone}
+use Rattle.basics.specs.Basics.{if_then_else_, _or_, Outcome, done, refused, isDone}
+use Rattle.frame_layout.specs.Frames.{Reading, data-of, status-of, refuse, readFrame}
 use Rattle.bearer.specs.Bearer.{After}
 use Rattle.bearer.specs.Keeper as K
 use Rattle.bearer.specs.Ledger as G
@@ -36,6 +37,9 @@ pub data Event : Type 0 where
   other : List ℕ → Event
   -- an entry is taken from the master
   take-one : Event
+  -- either end is opened again: L, the first number and the first PDCP number
+  open-secondary : ℕ → ℕ → ℕ → Event
+  open-master : ℕ → ℕ → ℕ → Event
 
 -- a status frame that was built: its octets, and the packets that were confirmed by then
 pub record Built : Type 0 where
@@ -73,8 +77,8 @@ freshWorld keeper ledger = record {
 }
 
 -- a world whose parts are put anew; beside a fresh world, the one place that says every field
-abbrev pub changed : World → K.Keeper → G.Ledger ℕ → List ℕ → Fates → List ℕ → List Built → ℕ → List ℕ → World
-changed w keeper ledger sent fates confirmed built delivered freed = record {
+abbrev pub changed : K.Keeper → G.Ledger ℕ → List ℕ → Fates → List ℕ → List Built → ℕ → List ℕ → World
+changed keeper ledger sent fates confirmed built delivered freed = record {
   keeper = keeper;
   ledger = ledger;
   sent = sent;
@@ -88,42 +92,42 @@ changed w keeper ledger sent fates confirmed built delivered freed = record {
 -- ... with another secondary
 infixl 20 _with-keeper_
 abbrev pub _with-keeper_ : World → K.Keeper → World
-_with-keeper_ w keeper = changed w keeper (w .ledger) (w .sent) (w .fates) (w .confirmed) (w .built) (w .delivered) (w .freed)
+_with-keeper_ w keeper = changed keeper (w .ledger) (w .sent) (w .fates) (w .confirmed) (w .built) (w .delivered) (w .freed)
 
 -- ... with another master
 infixl 20 _with-ledger_
 abbrev pub _with-ledger_ : World → G.Ledger ℕ → World
-_with-ledger_ w ledger = changed w (w .keeper) ledger (w .sent) (w .fates) (w .confirmed) (w .built) (w .delivered) (w .freed)
+_with-ledger_ w ledger = changed (w .keeper) ledger (w .sent) (w .fates) (w .confirmed) (w .built) (w .delivered) (w .freed)
 
 -- ... with other packets sent
 infixl 20 _with-sent_
 abbrev pub _with-sent_ : World → List ℕ → World
-_with-sent_ w sent = changed w (w .keeper) (w .ledger) sent (w .fates) (w .confirmed) (w .built) (w .delivered) (w .freed)
+_with-sent_ w sent = changed (w .keeper) (w .ledger) sent (w .fates) (w .confirmed) (w .built) (w .delivered) (w .freed)
 
 -- ... with other fates of the packets
 infixl 20 _with-fates_
 abbrev pub _with-fates_ : World → Fates → World
-_with-fates_ w fates = changed w (w .keeper) (w .ledger) (w .sent) fates (w .confirmed) (w .built) (w .delivered) (w .freed)
+_with-fates_ w fates = changed (w .keeper) (w .ledger) (w .sent) fates (w .confirmed) (w .built) (w .delivered) (w .freed)
 
 -- ... with other packets confirmed
 infixl 20 _with-confirmed_
 abbrev pub _with-confirmed_ : World → List ℕ → World
-_with-confirmed_ w confirmed = changed w (w .keeper) (w .ledger) (w .sent) (w .fates) confirmed (w .built) (w .delivered) (w .freed)
+_with-confirmed_ w confirmed = changed (w .keeper) (w .ledger) (w .sent) (w .fates) confirmed (w .built) (w .delivered) (w .freed)
 
 -- ... with other frames built
 infixl 20 _with-built_
 abbrev pub _with-built_ : World → List Built → World
-_with-built_ w built = changed w (w .keeper) (w .ledger) (w .sent) (w .fates) (w .confirmed) built (w .delivered) (w .freed)
+_with-built_ w built = changed (w .keeper) (w .ledger) (w .sent) (w .fates) (w .confirmed) built (w .delivered) (w .freed)
 
 -- ... with another count of frames delivered
 infixl 20 _with-delivered_
 abbrev pub _with-delivered_ : World → ℕ → World
-_with-delivered_ w delivered = changed w (w .keeper) (w .ledger) (w .sent) (w .fates) (w .confirmed) (w .built) delivered (w .freed)
+_with-delivered_ w delivered = changed (w .keeper) (w .ledger) (w .sent) (w .fates) (w .confirmed) (w .built) delivered (w .freed)
 
 -- ... with other packets freed
 infixl 20 _with-freed_
 abbrev pub _with-freed_ : World → List ℕ → World
-_with-freed_ w freed = changed w (w .keeper) (w .ledger) (w .sent) (w .fates) (w .confirmed) (w .built) (w .delivered) freed
+_with-freed_ w freed = changed (w .keeper) (w .ledger) (w .sent) (w .fates) (w .confirmed) (w .built) (w .delivered) freed
 
 -- those of a list that are not in another
 abbrev pub without : List ℕ → List ℕ → List ℕ
@@ -139,11 +143,23 @@ latest L first n (i ∷ is) = max (if eqb (numberOf L first i) n then i else 0) 
 abbrev pub inFlight : World → List Built
 inFlight w = drop (w .delivered) (w .built)
 
+-- Final in a frame, as anyone reads it
+abbrev pub finalRead : Reading → Bool
+finalRead (data-of long n) = false
+finalRead (status-of s) = s .final
+finalRead (refuse n) = false
+
+-- one of frames had Final
+abbrev pub hadFinal : List Built → Bool
+hadFinal [] = false
+hadFinal (b ∷ bs) = finalRead (readFrame (b .frame)) or hadFinal bs
+
 -- ---- what each event does
 
--- the secondary after numbers reached it or a gap expired, and what our rule says then; a closed end takes no part in it
+-- the secondary after numbers reached it or a gap expired, and what our rule says then; once it has built a frame with Final nothing is declared
+-- any more
 abbrev pub atSecondary : World → K.Keeper → Fates → World
-atSecondary w k r = w with-keeper k with-fates (if w .keeper .closed then w .fates else r)
+atSecondary w k r = w with-keeper k with-fates (if hadFinal (w .built) then w .fates else r)
 
 -- an accepted send is the next packet
 abbrev pub afterSend : World → ℕ → After (G.Ledger ℕ) ℕ → World
@@ -175,6 +191,11 @@ afterDelivery w (b ∷ bs) = atMaster w (suc (w .delivered)) (G.accept (w .ledge
 abbrev pub afterTake : World → G.Ledger ℕ → World
 afterTake w l = w with-ledger l
 
+-- the end that an open leaves: the fresh one, or where it is refused the one that was there
+abbrev pub openedOr : {S : Type 0} → S → Outcome S → S
+openedOr s (done fresh) = fresh
+openedOr s (refused n) = s
+
 -- the world after an event, on a bearer with this L and this first number
 abbrev pub step : ℕ → ℕ → World → Event → World
 step L first w (send p) = afterSend w p (G.send (w .ledger) p (length (w .sent)))
@@ -186,3 +207,5 @@ step L first w (status d m final buffer) = afterStatus w (K.status (w .keeper) d
 step L first w deliver = afterDelivery w (inFlight w)
 step L first w (other o) = atMaster w (w .delivered) (G.accept (w .ledger) o .state)
 step L first w take-one = afterTake w (G.takeOldest (w .ledger) .state)
+step L first w (open-secondary bits n f) = w with-keeper openedOr (w .keeper) (K.openKeeper bits n f)
+step L first w (open-master bits n f) = w with-ledger openedOr (w .ledger) (G.openLedger bits n f)

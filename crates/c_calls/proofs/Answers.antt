@@ -57,7 +57,7 @@ left-as {s = s} fits e q = ap (λ (y : ℤ). leaves y s) (handed-on fits e) ∙ 
 pub not-below : {A : Type 0} {n m : ℕ} → pos n ≡ negsuc m → A
 not-below e = apart (cc)
 
--- an answer that a call made from 0 on, what is left with it, and whatever is asked of one below 0
-pub accepted : {S P : Type 0} {z : ℤ} {n : ℕ} {s : S} {l : Left S} → mag z < 2 ^ 63 → z ≡ pos n → leaves (pos n) s ≡ l
-    → (leaves (toZ w64 (ofZ w64 z)) s ≡ l) × ((m : ℕ) → toZ w64 (ofZ w64 z) ≡ negsuc m → P)
-accepted fits e q = (left-as fits e q, λ m b. not-below (sym (handed-on fits e) ∙ b))
+-- an answer that a call made from 0 on, what is left with it, whatever is asked of one below 0, and what holds of any
+pub accepted : {S P Q : Type 0} {z : ℤ} {n : ℕ} {s : S} {l : Left S} → mag z < 2 ^ 63 → z ≡ pos n → leaves (pos n) s ≡ l → Q
+    → (leaves (toZ w64 (ofZ w64 z)) s ≡ l) × (((m : ℕ) → toZ w64 (ofZ w64 z) ≡ negsuc m → P) × Q)
+accepted fits e q any = (left-as fits e q, (λ m b. not-below (sym (handed-on fits e) ∙ b), any))

@@ -12,6 +12,7 @@ ghost use Rattle.basics.specs.Basics.{isSet};
 ghost use Rattle.frame_layout.specs.Frames.{readFrame};
 ghost use Rattle.bearer.specs.Keeper.{openKeeper, arrive, expire, confirm, status};
 ghost use Rattle.keeper.specs.View.{keeperIn, opensInto, arrays};
+ghost use Rattle.keeper.specs.Plain.{Plain};
 ghost use Rattle.c_calls.specs.Boundary.{minus, mostAnswer, fieldCount, cursorCount, leaves, counts, settles, reports, fieldsOf, reads, cursorIn, begins, stepIn, steps};
 ghost use Rattle.c_calls.specs.Looks.{kindOf, refusalOf, answerTo, isStatus, firstOf};
 
@@ -183,6 +184,7 @@ pub extern "C" fn x2u_keeper_open(
         ≡ settles (opensInto (keeperIn (now (numbers .entry)) (now (pdcps .entry)) (now (marks .entry)) (now (starts .entry)) (now (ends .entry)) (now (words .entry))) (openKeeper length number pdcp)) ⌝ }
     ensures { λ r. ⌜ ((n : ℕ) → r ≡ negsuc n → arrays (now (numbers .exit)) (now (pdcps .exit)) (now (marks .exit)) (now (starts .exit)) (now (ends .exit)) (now (words .exit))
         ≡ arrays (now (numbers .entry)) (now (pdcps .entry)) (now (marks .entry)) (now (starts .entry)) (now (ends .entry)) (now (words .entry))) ⌝ }
+    ensures { λ r. ⌜ ((n : ℕ) → r ≡ pos n → Plain (now (words .exit)) (now (marks .exit))) ⌝ }
 {
     match keeper::open(
         numbers,
@@ -216,6 +218,7 @@ pub extern "C" fn x2u_keeper_arrive(
         ≡ counts (arrive (keeperIn (now (numbers .entry)) (now (pdcps .entry)) (now (marks .entry)) (now (starts .entry)) (now (ends .entry)) (now (words .entry))) number pdcp) ⌝ }
     ensures { λ r. ⌜ ((n : ℕ) → r ≡ negsuc n → arrays (now (numbers .exit)) (now (pdcps .exit)) (now (marks .exit)) (now (starts .exit)) (now (ends .exit)) (now (words .exit))
         ≡ arrays (now (numbers .entry)) (now (pdcps .entry)) (now (marks .entry)) (now (starts .entry)) (now (ends .entry)) (now (words .entry))) ⌝ }
+    ensures { λ _. ⌜ (Plain (now (words .entry)) (now (marks .entry)) → Plain (now (words .exit)) (now (marks .exit))) ⌝ }
 {
     match keeper::arrive(numbers, pdcps, marks, starts, ends, words, number, pdcp) {
         keeper::Counted::Lost(n) => value(n),
@@ -237,6 +240,7 @@ pub extern "C" fn x2u_keeper_expire(
         ≡ counts (expire (keeperIn (now (numbers .entry)) (now (pdcps .entry)) (now (marks .entry)) (now (starts .entry)) (now (ends .entry)) (now (words .entry)))) ⌝ }
     ensures { λ r. ⌜ ((n : ℕ) → r ≡ negsuc n → arrays (now (numbers .exit)) (now (pdcps .exit)) (now (marks .exit)) (now (starts .exit)) (now (ends .exit)) (now (words .exit))
         ≡ arrays (now (numbers .entry)) (now (pdcps .entry)) (now (marks .entry)) (now (starts .entry)) (now (ends .entry)) (now (words .entry))) ⌝ }
+    ensures { λ _. ⌜ (Plain (now (words .entry)) (now (marks .entry)) → Plain (now (words .exit)) (now (marks .exit))) ⌝ }
 {
     match keeper::expire(numbers, pdcps, marks, starts, ends, words) {
         keeper::Counted::Lost(n) => value(n),
@@ -259,6 +263,7 @@ pub extern "C" fn x2u_keeper_confirm(
         ≡ settles (confirm (keeperIn (now (numbers .entry)) (now (pdcps .entry)) (now (marks .entry)) (now (starts .entry)) (now (ends .entry)) (now (words .entry))) number) ⌝ }
     ensures { λ r. ⌜ ((n : ℕ) → r ≡ negsuc n → arrays (now (numbers .exit)) (now (pdcps .exit)) (now (marks .exit)) (now (starts .exit)) (now (ends .exit)) (now (words .exit))
         ≡ arrays (now (numbers .entry)) (now (pdcps .entry)) (now (marks .entry)) (now (starts .entry)) (now (ends .entry)) (now (words .entry))) ⌝ }
+    ensures { λ _. ⌜ (Plain (now (words .entry)) (now (marks .entry)) → Plain (now (words .exit)) (now (marks .exit))) ⌝ }
 {
     match keeper::confirm(numbers, pdcps, marks, starts, ends, words, number) {
         keeper::Confirmed::Done => 0,
@@ -284,6 +289,7 @@ pub extern "C" fn x2u_keeper_status(
         ≡ reports (status (keeperIn (now (numbers .entry)) (now (pdcps .entry)) (now (marks .entry)) (now (starts .entry)) (now (ends .entry)) (now (words .entry))) desired minimum (isSet last) (now (dst .entry))) ⌝ }
     ensures { λ r. ⌜ ((n : ℕ) → r ≡ negsuc n → arrays (now (numbers .exit)) (now (pdcps .exit)) (now (marks .exit)) (now (starts .exit)) (now (ends .exit)) (now (words .exit))
         ≡ arrays (now (numbers .entry)) (now (pdcps .entry)) (now (marks .entry)) (now (starts .entry)) (now (ends .entry)) (now (words .entry))) ⌝ }
+    ensures { λ _. ⌜ (Plain (now (words .entry)) (now (marks .entry)) → Plain (now (words .exit)) (now (marks .exit))) ⌝ }
 {
     match keeper::status(
         numbers,

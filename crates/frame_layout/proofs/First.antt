@@ -1,8 +1,8 @@
--- The first octet: it says what it was made of, and it is made of what it says where its spare bits are zero.
+-- The first octet: it says what it was made of, and it is made of what it says but for its spare bits.
 -- Assumes nothing.
 use mathlib.Core.Path.{_≡_, refl, _∙_, ap}
 use mathlib.Core.Bool.{Bool, true, false}
-use Prim.Native.Nat.{ℕ, zero, suc, _/_, _%_, _<_}
+use Prim.Native.Nat.{ℕ, zero, suc, _+_, _*_, _/_, _%_, _<_}
 use native.Mathlib.Omega.{arith}
 use native.Mathlib.Nat.{div-div-eq-div-mul}
 use lib.Dec.{eqb}
@@ -45,7 +45,6 @@ module _ (t : ℕ) (final listed : Bool) where
   pub first-below : t < 16 → firstOctet t final listed < 256
   first-below h = omega (arith, bit-below final, bit-below listed)
 
--- made again of what an octet says, it is that octet
-pub first-again : (x : ℕ) → x / 4 % 4 ≡ 0 → firstOctet (x / 16) (eqb (x / 2 % 2) 1) (eqb (x % 2) 1) ≡ x
-first-again x spare =
-    omega (arith, untested (x / 2 % 2) (omega arith), untested (x % 2) (omega arith), div-div-eq-div-mul x 2 2, div-div-eq-div-mul x 4 4)
+-- made again of what an octet says, it is that octet but for the spare bits
+pub first-again : (x : ℕ) → firstOctet (x / 16) (eqb (x / 2 % 2) 1) (eqb (x % 2) 1) ≡ x / 16 * 16 + x % 4
+first-again x = omega (arith, untested (x / 2 % 2) (omega arith), untested (x % 2) (omega arith), div-div-eq-div-mul x 2 2, div-div-eq-div-mul x 4 4)

@@ -3,7 +3,7 @@ pub mod Octets
 pub mod Ranges
 pub mod Padding
 pub mod First
-pub mod Frame
+pub mod Refusals
 pub mod Read
 pub mod Written
 pub mod Rewritten

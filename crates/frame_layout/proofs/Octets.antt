@@ -16,15 +16,12 @@ use lib.Seq.{take-suc, take-add, drop-drop, getD-drop, getD-append-add, getD-at}
 use Rattle.basics.specs.Basics.{all, _and_}
 use Rattle.frame_layout.specs.Octets.{octets, field}
 use Rattle.frame_layout.specs.Frames.{Range, width, inForm, rangeOctets, rangesAt}
+use Rattle.frame_layout.specs.Trips.{AreOctets}
 use Rattle.circle.specs.Lengths.{modulus}
 use Rattle.basics.proofs.Choices.{and-true}
 use Rattle.frame_layout.proofs.Forms.{modulus-is}
 
 -- ---- lists of octets
-
--- every element of s is an octet
-pub record AreOctets (s : List ℕ) : Type 0 where
-  pub at : (i : ℕ) → getD s i 0 < 256
 
 pub none-are : AreOctets []
 none-are = record { at = λ i. omega arith }

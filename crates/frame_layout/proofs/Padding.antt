@@ -11,8 +11,9 @@ use lib.ListN.{length, take, drop, replicate, length-append, length-replicate, t
 use lib.Seq.{length-take-le, drop-append-seam}
 use Rattle.basics.specs.Basics.{_or_}
 use Rattle.frame_layout.specs.Frames.{leastOctets, mostOctets, padding, padded, badLength}
+use Rattle.frame_layout.specs.Trips.{AreOctets, GoodLength, Fewest}
 use Rattle.basics.proofs.Choices.{or-false}
-use Rattle.frame_layout.proofs.Octets.{AreOctets, none-are, cons-are, append-are}
+use Rattle.frame_layout.proofs.Octets.{none-are, cons-are, append-are}
 
 -- padding is below 4, takes a length to 4k - 2, and is the least that does
 pub padding-least : (n : ℕ) → (padding n < 4) × ((n + padding n) % 4 ≡ 2) × ((p : ℕ) → (n + p) % 4 ≡ 2 → padding n ≤ p)
@@ -20,13 +21,7 @@ padding-least n = omega arith
 
 -- ---- lengths
 
--- a length that a frame can have
-pub record GoodLength (n : ℕ) : Type 0 where
-  pub least : leastOctets ≤ n
-  pub most : n ≤ mostOctets
-  pub phase : n % 4 ≡ 2
-
--- it is none that the reader refuses
+-- a length that a frame can have is none that the reader refuses
 pub good-not-bad : (n : ℕ) → GoodLength n → badLength n ≡ false
 good-not-bad n g = simp (le-ltb n leastOctets (g .least), le-ltb mostOctets n (g .most), eq-eqb (n % 4) 2 (g .phase))
 
@@ -45,6 +40,10 @@ length-padded fields = simp (length-append, length-replicate)
 -- 3 to 1018 octets are padded to a length that a frame can have
 pub padded-good : (fields : List ℕ) → 3 ≤ length fields → length fields ≤ mostOctets → GoodLength (length (padded fields))
 padded-good fields h k = rw (length-padded fields) (omega arith)
+
+-- and by 3 octets at most
+pub padded-fewest : (fields : List ℕ) (n : ℕ) → n ≡ length fields → Fewest n (length (padded fields))
+padded-fewest fields n e = rw (length-padded fields) (omega arith)
 
 -- behind the fields stands their padding
 pub padded-rest : (fields : List ℕ) (end : ℕ) → end ≡ length fields → drop end (padded fields) ≡ replicate (padding end) 0

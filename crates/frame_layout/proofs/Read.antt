@@ -1,6 +1,6 @@
 -- When octets are read as a frame: what stands in them then, and that the frame can be written.
 -- Assumes nothing.
-use mathlib.Core.Path.{_≡_, refl, subst}
+use mathlib.Core.Path.{_≡_, refl, sym, _∙_, ap, subst}
 use mathlib.Core.Bool.{Bool, true, false}
 use mathlib.Core.List.{List}
 use Prim.Native.Nat.{ℕ, _≤_}
@@ -8,15 +8,18 @@ use native.Mathlib.Omega.{arith}
 use borrow.Author.Tests.{le-ltb, ltb-false, eqb-true}
 use lib.Dec.{ltb, eqb}
 use lib.ListN.{length, getD}
-use Rattle.basics.specs.Basics.{if_then_else_}
+use Rattle.basics.specs.Basics.{if_then_else_, isDone}
 use Rattle.frame_layout.specs.Octets.{field}
 use Rattle.frame_layout.specs.Frames.{width, mostHighest, dataType, statusType, mostRanges, Reading, status-of, refuse, typeIn, listedIn, badLength, countRefused, desiredAt, minimumAt, countAt, listAt, countIn, fixedEnd, listEnd, statusIn, readData, readStatus, readType, readFrame}
+use Rattle.frame_layout.specs.Refusals.{answered}
+use Rattle.frame_layout.specs.Trips.{AreOctets, GoodLength, Frame, data-frame, status-frame, readingOf, Writable}
 use Rattle.basics.proofs.Apart.{apart}
 use Rattle.basics.proofs.Choices.{or-false, by-choice}
+use Rattle.basics.proofs.Refusals.{says-fails, given-none}
 use Rattle.frame_layout.proofs.Forms.{modulus-is}
-use Rattle.frame_layout.proofs.Octets.{AreOctets, field-below, rangesAt-inForm, length-rangesAt}
-use Rattle.frame_layout.proofs.Padding.{GoodLength, not-bad-good}
-use Rattle.frame_layout.proofs.Frame.{Frame, data-frame, status-frame, readingOf, Writable}
+use Rattle.frame_layout.proofs.Octets.{field-below, rangesAt-inForm, length-rangesAt}
+use Rattle.frame_layout.proofs.Padding.{not-bad-good}
+use Rattle.frame_layout.proofs.Refusals.{from2, early-says, highest-says, count-says, list-says, status-read-given}
 
 -- octets of a status which 3, 4, 5 and 6 don't refuse
 pub record Fits (long : Bool) (s : List ℕ) : Type 0 where
@@ -41,16 +44,29 @@ no-refusal : (f : Frame) (n : ℕ) → refuse n ≡ readingOf f → ⊥
 no-refusal (data-frame long m) n e = apart (cc)
 no-refusal (status-frame s) n e = apart (cc)
 
+-- octets that are read as a frame are taken
+frame-taken : (f : Frame) → isDone (answered (readingOf f)) ≡ true
+frame-taken (data-frame long n) = refl
+frame-taken (status-frame s) = refl
+
+-- a status that is taken passes 3 to 6
+taken-fits : (long : Bool) (s : List ℕ) → typeIn s ≡ statusType long → isDone (answered (readStatus long s)) ≡ true → Fits long s
+taken-fits long s t taken =
+    let none = given-none (from2 s) (answered (readStatus long s)) (status-read-given long s t) taken .1 in
+    let fixed : ltb (length s) (fixedEnd s (width long)) ≡ false = says-fails (early-says long s t) (none .0) in
+    record {
+      fixed-in = ltb-false _ _ fixed;
+      highest-in = ltb-false _ _ (says-fails (highest-says long s t) (none .1 .0));
+      count-in = says-fails (count-says long s t) (none .1 .1 .0);
+      list-in = ltb-false _ _ (says-fails (list-says long s t fixed) (none .1 .1 .1 .0));
+    }
+
 -- frames that are read alike are one
 one-frame : (f g : Frame) → readingOf f ≡ readingOf g → f ≡ g
 one-frame (data-frame long n) (data-frame long' n') e = cc
 one-frame (data-frame long n) (status-frame s) e = cc
 one-frame (status-frame s) (data-frame long n) e = cc
 one-frame (status-frame s) (status-frame t) e = cc
-
--- octets that are read as a frame pass each refusal
-past : (f : Frame) (b : Bool) (n : ℕ) (r : Reading) → (if b then refuse n else r) ≡ readingOf f → (b ≡ false) × (r ≡ readingOf f)
-past f b n r = by-choice b (refuse n) r (readingOf f) (λ e g. absurd (no-refusal f n g)) (λ e g. (e, g))
 
 -- how octets come to be read as a frame
 pub data Read (s : List ℕ) : Frame → Type 0 where
@@ -63,13 +79,8 @@ module _ (s : List ℕ) (f : Frame) where
 
   status-read : (long : Bool) → typeIn s ≡ statusType long → readStatus long s ≡ readingOf f → Read s f
   status-read long t e =
-      let w : ℕ = width long in
-      let p3 = past f (ltb (length s) (fixedEnd s w)) 3 _ e in
-      let p4 = past f (ltb (mostHighest long) (field s 1 w)) 4 _ (p3 .1) in
-      let p5 = past f (countRefused (listedIn s) (countIn s w)) 5 _ (p4 .1) in
-      let p6 = past f (ltb (length s) (listEnd s w)) 6 _ (p5 .1) in
-      let fits : Fits long s = record { fixed-in = ltb-false _ _ (p3 .0); highest-in = ltb-false _ _ (p4 .0); count-in = p5 .0; list-in = ltb-false _ _ (p6 .0) } in
-      subst (Read s) (one-frame (status-frame (statusIn long s)) f (p6 .1)) (as-status long t fits)
+      let fits : Fits long s = taken-fits long s t (ap (λ (r : Reading). isDone (answered r)) e ∙ frame-taken f) in
+      subst (Read s) (one-frame (status-frame (statusIn long s)) f (sym (fits-read long s fits) ∙ e)) (as-status long t fits)
 
   type-read : readType (typeIn s) s ≡ readingOf f → Read s f
   type-read =
@@ -80,9 +91,9 @@ module _ (s : List ℕ) (f : Frame) where
 
 -- octets that are read as a frame have a length that a frame can have, and are read by their type
 pub frame-read : (s : List ℕ) (f : Frame) → readFrame s ≡ readingOf f → GoodLength (length s) × Read s f
-frame-read s f e =
-    let p1 = past f (badLength (length s)) 1 (readType (typeIn s) s) e in
-    (not-bad-good (length s) (p1 .0), type-read s f (p1 .1))
+frame-read s f =
+    by-choice (badLength (length s)) (refuse 1) (readType (typeIn s) s) (readingOf f) (λ _ e. absurd (no-refusal f 1 e)) λ good e.
+    (not-bad-good (length s) good, type-read s f e)
 
 -- ---- it can be written
 

@@ -1,7 +1,7 @@
 -- The octets of a frame that can be written: their number, that they are octets, that they are canonical, and that a reader
 -- finds in them what the frame says.
 -- Assumes nothing.
-use mathlib.Core.Path.{_≡_, refl, _∙_, ap, ap₂}
+use mathlib.Core.Path.{_≡_, refl, sym, _∙_, ap, ap₂}
 use mathlib.Core.Bool.{Bool, true, false}
 use mathlib.Core.List.{List, [], _∷_, _++_, append-assoc}
 use Prim.Native.Nat.{ℕ, suc, _+_, _*_, _≤_, _<_}
@@ -12,12 +12,12 @@ use lib.Seq.{getD-at}
 use Rattle.basics.specs.Basics.{if_then_else_, bit, all, some-in}
 use Rattle.frame_layout.specs.Octets.{octets, field}
 use Rattle.frame_layout.specs.Frames.{width, dataType, statusType, mostRanges, Range, Status, firstOctet, padding, dataOctets, rangeOctets, listOctets, statusOctets, data-of, status-of, refuse, typeIn, listedIn, countRefused, rangesAt, desiredAt, minimumAt, countAt, listAt, countIn, listEnd, statusIn, readData, readStatus, readType, readFrame, inForm}
+use Rattle.frame_layout.specs.Trips.{AreOctets, GoodLength, data-frame, status-frame, WritableStatus, beforePadding, Fewest, Canonical}
 use Rattle.circle.specs.Lengths.{modulus}
-use Rattle.frame_layout.proofs.Forms.{width-within, modulus-is, highest-held, types-below, fixed-end, ranges-most}
-use Rattle.frame_layout.proofs.Octets.{AreOctets, none-are, cons-are, append-are, octets-are, length-octets, field-of, length-rangeOctets, rangeOctets-are, ranges-of}
-use Rattle.frame_layout.proofs.Padding.{GoodLength, good-not-bad, length-padded, padded-good, padded-rest, padded-are}
+use Rattle.frame_layout.proofs.Forms.{width-within, modulus-is, highest-held, types-below, before-data, before-status, fixed-end, ranges-most}
+use Rattle.frame_layout.proofs.Octets.{none-are, cons-are, append-are, octets-are, length-octets, field-of, length-rangeOctets, rangeOctets-are, ranges-of}
+use Rattle.frame_layout.proofs.Padding.{good-not-bad, length-padded, padded-good, padded-fewest, padded-rest, padded-are}
 use Rattle.frame_layout.proofs.First.{bit-below, first-type, first-final, first-listed, first-spare, first-below}
-use Rattle.frame_layout.proofs.Frame.{data-frame, status-frame, WritableStatus, Canonical}
 use Rattle.frame_layout.proofs.Read.{Fits, fits-read}
 
 -- ---- data frames
@@ -35,11 +35,14 @@ module _ (long : Bool) (n : ℕ) where
   pub data-good : GoodLength (length (dataOctets long n))
   data-good = padded-good numbered (omega (arith, length-numbered, width-within long)) (omega (arith, length-numbered, width-within long))
 
+  pub data-fewest : Fewest (beforePadding (data-frame long n)) (length (dataOctets long n))
+  data-fewest = padded-fewest numbered (beforePadding (data-frame long n)) (before-data long n ∙ length-numbered)
+
   pub data-are : AreOctets (dataOctets long n)
-  data-are = padded-are (cons-are (first-below (dataType long) false false (types-below long .0)) (octets-are (width long) n))
+  data-are = padded-are (cons-are (first-below (dataType long) false false (omega (arith, types-below long .0))) (octets-are (width long) n))
 
   pub data-canonical : Canonical (data-frame long n) (dataOctets long n)
-  data-canonical = record { spare = omega arith; rest = padded-rest numbered (1 + width long) length-numbered }
+  data-canonical = record { spare = omega arith; rest = padded-rest numbered (beforePadding (data-frame long n)) (before-data long n ∙ length-numbered) }
 
   number-back : n < modulus long → field (dataOctets long n) 1 (width long) ≡ n
   number-back h =
@@ -158,6 +161,9 @@ module _ (s : Status) (h : WritableStatus s) where
   fields-end : length (fixed ++ list) ≡ 9 + w + bit listed + length (s .ranges) * (2 * w)
   fields-end = simp (length-append, length-octets, length-listOctets) (omega arith)
 
+  before : beforePadding (status-frame s) ≡ length (fixed ++ list)
+  before = before-status s ∙ sym fields-end
+
   listEnd-back : listEnd octs w ≡ length (fixed ++ list)
   listEnd-back =
       ap₂ (λ (b : Bool) (n : ℕ). (if b then listAt w else countAt w) + n * (2 * w)) listed-back countIn-back ∙ omega (arith, fixed-end listed w, fields-end)
@@ -167,15 +173,18 @@ module _ (s : Status) (h : WritableStatus s) where
       let most = ranges-most (s .long) (length (s .ranges)) (h .ranges-few) in
       padded-good (fixed ++ list) (omega (arith, fields-end)) (omega (arith, fields-end, width-within (s .long), bit-below listed, most))
 
+  pub status-fewest : Fewest (beforePadding (status-frame s)) (length octs)
+  status-fewest = padded-fewest (fixed ++ list) (beforePadding (status-frame s)) before
+
   pub status-are : AreOctets octs
   status-are =
-      let head = cons-are (first-below (statusType (s .long)) (s .final) listed (types-below (s .long) .1)) (octets-are w (s .highest)) in
+      let head = cons-are (first-below (statusType (s .long)) (s .final) listed (omega (arith, types-below (s .long) .1))) (octets-are w (s .highest)) in
       padded-are (append-are (append-are (append-are head (octets-are 4 (s .desired))) (octets-are 4 (s .minimum))) (listOctets-are w (s .ranges) (h .ranges-few)))
 
   pub status-canonical : Canonical (status-frame s) octs
   status-canonical = record {
     spare = first-spare (statusType (s .long)) (s .final) listed;
-    rest = padded-rest (fixed ++ list) (listEnd octs w) listEnd-back;
+    rest = padded-rest (fixed ++ list) (beforePadding (status-frame s)) before;
   }
 
   status-fits : Fits (s .long) octs

@@ -1,2 +1,4 @@
 pub mod Octets
 pub mod Frames
+pub mod Refusals
+pub mod Trips

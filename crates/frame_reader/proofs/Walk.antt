@@ -12,11 +12,10 @@ use lib.ListN.{length, getD}
 use Rattle.basics.specs.Basics.{if_then_else_}
 use Rattle.frame_layout.specs.Octets.{field}
 use Rattle.frame_layout.specs.Frames.{Range, Status, status-of, mostRanges, width, listAt, countAt, rangesAt, readFrame, listedIn, countIn}
+use Rattle.frame_layout.specs.Trips.{AreOctets, GoodLength, Frame as Framed, status-frame, readingOf as meant}
 use Rattle.circle.specs.Lengths.{modulus}
 use Rattle.basics.proofs.Apart.{apart}
-use Rattle.frame_layout.proofs.Octets.{AreOctets, field-below, length-rangesAt}
-use Rattle.frame_layout.proofs.Padding.{GoodLength}
-use Rattle.frame_layout.proofs.Frame.{Frame as Framed, status-frame, readingOf as meant}
+use Rattle.frame_layout.proofs.Octets.{field-below, length-rangesAt}
 use Rattle.frame_layout.proofs.Read.{few-read, Read, as-data, as-status, frame-read}
 use Rattle.frame_reader.specs.declared.Head.{Head}
 use Rattle.frame_reader.specs.declared.Frame.the-variants as frame

@@ -1,12 +1,12 @@
 -- What an accepted call leaves in words and arrays, by what each of its steps leaves: the machine's state.
 -- Assumes nothing.
 use mathlib.Core.Path.{_≡_, sym, _∙_, ap, ap₂, subst}
-use mathlib.Core.Bool.{Bool}
+use mathlib.Core.Bool.{Bool, true}
 use mathlib.Core.List.{List}
 use Prim.Native.Nat.{ℕ, _≤_, _<_, min}
 use native.Mathlib.Omega.{arith}
 use lib.ListN.{set, take, drop, length-take}
-use Rattle.basics.specs.Basics.{bit, done}
+use Rattle.basics.specs.Basics.{bit, isSet, done}
 use Rattle.basics.proofs.Choices.{set-bit}
 use Rattle.circle.specs.Lengths.{isLong}
 use Rattle.frame_layout.specs.Frames.{Range, Status, rangesOf, mostRanges, writeStatus}
@@ -78,8 +78,10 @@ module _ (w : Words) (ns ps cs ss es : List ℕ) where
   pub marked-within : {at n : ℕ} → AcceptsConfirm at state n → at < mostRecords
   marked-within accepts = omega (arith, accepts .within, length-take (heldIn w) (recordsOf ns ps cs))
 
-  pub confirmed : {at n : ℕ} → AcceptsConfirm at state n → answering tt (stateIn w ns ps (set cs at 1) ss es) ≡ confirm state n
-  confirmed {at} accepts = ap (λ (rs : List Record). answering tt (stateOf w (state .runs) rs)) (records-mark (heldIn w) at ns ps cs (accepts .within)) ∙ sym (accepts .outcome)
+  -- its mark is a number that is yes
+  pub confirmed : {at n : ℕ} → AcceptsConfirm at state n → (mark : ℕ) → isSet mark ≡ true → answering tt (stateIn w ns ps (set cs at mark) ss es) ≡ confirm state n
+  confirmed {at} accepts mark set-is =
+      ap (λ (rs : List Record). answering tt (stateOf w (state .runs) rs)) (records-mark mark set-is (heldIn w) at ns ps cs (accepts .within)) ∙ sym (accepts .outcome)
 
   -- ---- status
 

@@ -5,4 +5,6 @@ pub mod Records
 pub mod Listing
 pub mod Opening
 pub mod Changed
+pub mod Plain
+pub mod Alike
 pub mod Unique

@@ -1,11 +1,13 @@
 -- The first records of numbers, PDCP numbers and marks, when all three lists change.
 -- Assumes nothing.
 use mathlib.Core.Path.{_≡_, refl, sym, ap}
+use mathlib.Core.Bool.{Bool, true}
 use mathlib.Core.List.{List, [], _∷_, _++_}
 use Prim.Native.Nat.{ℕ, zero, suc, _+_, _-_, _≤_, _<_, min}
 use native.Mathlib.Omega.{arith}
 use lib.ListN.{length, getD, set, take, drop}
 use lib.Seq.{length-take-le}
+use Rattle.basics.specs.Basics.{isSet}
 use Rattle.bearer.specs.Bearer.{mostRecords}
 use Rattle.bearer.specs.Keeper.{Record, noRecord, newRecord, recordsWith, delivered}
 use Rattle.keeper_state.specs.State.{recordsOf}
@@ -21,15 +23,16 @@ records-with (suc i) n p (x ∷ ns) (y ∷ ps) [] l h g = absurd (omega arith)
 records-with (suc i) n p (x ∷ ns) (y ∷ ps) (z ∷ cs) l h g =
     ap (λ (rs : List Record). recordOf x y z ∷ rs) (records-with i n p ns ps cs (omega arith) (omega arith) (omega arith))
 
--- one of the first so many marked
-pub records-mark : (held i : ℕ) (ns ps cs : List ℕ) → i < length (take held (recordsOf ns ps cs))
-    → take held (recordsOf ns ps (set cs i 1)) ≡ set (take held (recordsOf ns ps cs)) i (delivered (getD (take held (recordsOf ns ps cs)) i noRecord))
-records-mark zero i ns ps cs h = absurd (omega arith)
-records-mark (suc held) i [] ps cs h = absurd (omega arith)
-records-mark (suc held) i (x ∷ ns) [] cs h = absurd (omega arith)
-records-mark (suc held) i (x ∷ ns) (y ∷ ps) [] h = absurd (omega arith)
-records-mark (suc held) zero (x ∷ ns) (y ∷ ps) (z ∷ cs) h = refl
-records-mark (suc held) (suc i) (x ∷ ns) (y ∷ ps) (z ∷ cs) h = ap (λ (rs : List Record). recordOf x y z ∷ rs) (records-mark held i ns ps cs (omega arith))
+-- one of the first so many marked, by a number that is yes
+pub records-mark : (mark : ℕ) → isSet mark ≡ true → (held i : ℕ) (ns ps cs : List ℕ) → i < length (take held (recordsOf ns ps cs))
+    → take held (recordsOf ns ps (set cs i mark)) ≡ set (take held (recordsOf ns ps cs)) i (delivered (getD (take held (recordsOf ns ps cs)) i noRecord))
+records-mark mark set-is zero i ns ps cs h = absurd (omega arith)
+records-mark mark set-is (suc held) i [] ps cs h = absurd (omega arith)
+records-mark mark set-is (suc held) i (x ∷ ns) [] cs h = absurd (omega arith)
+records-mark mark set-is (suc held) i (x ∷ ns) (y ∷ ps) [] h = absurd (omega arith)
+records-mark mark set-is (suc held) zero (x ∷ ns) (y ∷ ps) (z ∷ cs) h =
+    ap (λ (confirmed : Bool). record { number = x; pdcp = y; confirmed = confirmed } ∷ take held (recordsOf ns ps cs)) set-is
+records-mark mark set-is (suc held) (suc i) (x ∷ ns) (y ∷ ps) (z ∷ cs) h = ap (λ (rs : List Record). recordOf x y z ∷ rs) (records-mark mark set-is held i ns ps cs (omega arith))
 
 -- as many as a word says are held
 module _ (ns ps cs ns' ps' cs' : List ℕ) (word held : ℕ) (held-is : held ≡ min word mostRecords) where

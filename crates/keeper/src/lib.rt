@@ -1,6 +1,7 @@
 // The secondary's loss keeper (SeNB end): open, arrival, expiry, confirm, status. The state is lent arrays of numbers,
 // changed in place: records in sending order (number, PDCP number, mark of confirmation), listed runs (start, end), and six
-// words: L, base, the reported highest, closed, how many runs, how many records. specs/View.antt says how they are read.
+// words: L, base, the reported highest, closed, how many runs, how many records. specs/View.antt says how they are read, and
+// specs/Plain.antt which numbers calls leave in them.
 // Each call is judged (the crates keeper_judge and keeper_report) before anything is changed.
 ghost use mathlib.Core.Path.{_≡_};
 ghost use mathlib.Core.Bool.{true};
@@ -17,6 +18,7 @@ ghost use Rattle.bearer.specs.Keeper.{openKeeper, newRecord, recordsWith, arriv
 ghost use Rattle.keeper_state.specs.State.{_saying-base_, _saying-reported_, _saying-closed_, _saying-runs_, _saying-records_, modulusIn, heldIn, listedIn, recordsOf, stateIn};
 ghost use Rattle.keeper_judge.specs.Judgements.{Losing};
 ghost use Rattle.keeper.specs.View.{wordsIn, wordsOf, freshWords, shownIn, keeperIn, openedAs, countedAs, confirmedAs, reportedAs, opensInto, arrays};
+ghost use Rattle.keeper.specs.Plain.{Marked, Plain};
 ghost use Rattle.keeper.specs.Steps.{Lists, statusWith, Builds};
 use frame_writer::Head;
 use frame_writer::Wrote;
@@ -95,6 +97,7 @@ pub fn open(
         ≡ opensInto (keeperIn (now (numbers .entry)) (now (pdcps .entry)) (now (marks .entry)) (now (starts .entry)) (now (ends .entry)) (now (words .entry))) (openKeeper bits number pdcp) ⌝ }
     ensures { λ r. ⌜ ((n : ℕ) → r ≡ Opened.Refused n → arrays (now (numbers .exit)) (now (pdcps .exit)) (now (marks .exit)) (now (starts .exit)) (now (ends .exit)) (now (words .exit))
         ≡ arrays (now (numbers .entry)) (now (pdcps .entry)) (now (marks .entry)) (now (starts .entry)) (now (ends .entry)) (now (words .entry))) ⌝ }
+    ensures { λ r. ⌜ (r ≡ Opened.Done → Plain (now (words .exit)) (now (marks .exit))) ⌝ }
 {
     if !circle::is_length(bits) {
         return Opened::Refused(refusal::PDCP_LENGTH);
@@ -124,6 +127,7 @@ pub fn arrive(
         ≡ «arriveOf» (keeperIn (now (numbers .entry)) (now (pdcps .entry)) (now (marks .entry)) (now (starts .entry)) (now (ends .entry)) (now (words .entry))) number pdcp ⌝ }
     ensures { λ r. ⌜ ((n : ℕ) → r ≡ Counted.Refused n → arrays (now (numbers .exit)) (now (pdcps .exit)) (now (marks .exit)) (now (starts .exit)) (now (ends .exit)) (now (words .exit))
         ≡ arrays (now (numbers .entry)) (now (pdcps .entry)) (now (marks .entry)) (now (starts .entry)) (now (ends .entry)) (now (words .entry))) ⌝ }
+    ensures { λ _. ⌜ (Plain (now (words .entry)) (now (marks .entry)) → Plain (now (words .exit)) (now (marks .exit))) ⌝ }
 {
     let w = read(words);
     match keeper_judge::judge_arrival(w, numbers, pdcps, marks, starts, ends, number, pdcp) {
@@ -151,6 +155,7 @@ pub fn expire(
         ≡ «expireOf» (keeperIn (now (numbers .entry)) (now (pdcps .entry)) (now (marks .entry)) (now (starts .entry)) (now (ends .entry)) (now (words .entry))) ⌝ }
     ensures { λ r. ⌜ ((n : ℕ) → r ≡ Counted.Refused n → arrays (now (numbers .exit)) (now (pdcps .exit)) (now (marks .exit)) (now (starts .exit)) (now (ends .exit)) (now (words .exit))
         ≡ arrays (now (numbers .entry)) (now (pdcps .entry)) (now (marks .entry)) (now (starts .entry)) (now (ends .entry)) (now (words .entry))) ⌝ }
+    ensures { λ _. ⌜ (Plain (now (words .entry)) (now (marks .entry)) → Plain (now (words .exit)) (now (marks .exit))) ⌝ }
 {
     let w = read(words);
     match keeper_judge::judge_expiry(w, numbers, pdcps, marks, starts, ends) {
@@ -178,6 +183,7 @@ pub fn confirm(
         ≡ «confirmOf» (keeperIn (now (numbers .entry)) (now (pdcps .entry)) (now (marks .entry)) (now (starts .entry)) (now (ends .entry)) (now (words .entry))) number ⌝ }
     ensures { λ r. ⌜ ((n : ℕ) → r ≡ Confirmed.Refused n → arrays (now (numbers .exit)) (now (pdcps .exit)) (now (marks .exit)) (now (starts .exit)) (now (ends .exit)) (now (words .exit))
         ≡ arrays (now (numbers .entry)) (now (pdcps .entry)) (now (marks .entry)) (now (starts .entry)) (now (ends .entry)) (now (words .entry))) ⌝ }
+    ensures { λ _. ⌜ (Plain (now (words .entry)) (now (marks .entry)) → Plain (now (words .exit)) (now (marks .exit))) ⌝ }
 {
     match keeper_report::judge_confirm(read(words), numbers, pdcps, marks, number) {
         Found::Refused(n) => Confirmed::Refused(n),
@@ -205,6 +211,7 @@ pub fn status(
         ≡ «statusOf» (keeperIn (now (numbers .entry)) (now (pdcps .entry)) (now (marks .entry)) (now (starts .entry)) (now (ends .entry)) (now (words .entry))) desired minimum last (now (dst .entry)) ⌝ }
     ensures { λ r. ⌜ ((n : ℕ) → r ≡ Frame.Refused n → arrays (now (numbers .exit)) (now (pdcps .exit)) (now (marks .exit)) (now (starts .exit)) (now (ends .exit)) (now (words .exit))
         ≡ arrays (now (numbers .entry)) (now (pdcps .entry)) (now (marks .entry)) (now (starts .entry)) (now (ends .entry)) (now (words .entry))) ⌝ }
+    ensures { λ _. ⌜ (Plain (now (words .entry)) (now (marks .entry)) → Plain (now (words .exit)) (now (marks .exit))) ⌝ }
 {
     let w = read(words);
     match build(
@@ -397,6 +404,7 @@ fn word_at(a: &[u32], at: usize) -> u32
 fn drop_runs(starts: &mut RunArray, ends: &mut RunArray, word: u32) -> u32
     ensures { λ r. ⌜ take (min r mostRuns) (rangesOf (now (starts .exit)) (now (ends .exit)))
         ≡ drop mostRanges (take (min word mostRuns) (rangesOf (now (starts .entry)) (now (ends .entry)))) ⌝ }
+    ensures { λ r. ⌜ r ≤ mostRuns ⌝ }
 {
     let listed = listed_in(word);
     let carried = basics::least(listed, frame_layout::MOST_RANGES);
@@ -420,6 +428,7 @@ fn add_record(
     requires { ⌜ (place ≤ min word mostRecords) × (min word mostRecords < mostRecords) ⌝ }
     ensures { λ r. ⌜ take (min r mostRecords) (recordsOf (now (numbers .exit)) (now (pdcps .exit)) (now (marks .exit)))
         ≡ recordsWith (take (min word mostRecords) (recordsOf (now (numbers .entry)) (now (pdcps .entry)) (now (marks .entry)))) place (newRecord number pdcp) ⌝ }
+    ensures { λ r. ⌜ (Marked word (now (marks .entry)) → Marked r (now (marks .exit))) ⌝ }
 {
     let held = held_in(word);
     put_in(numbers, held, place, number);
@@ -448,6 +457,7 @@ fn drop_records(
     requires { ⌜ gone ≤ min word mostRecords ⌝ }
     ensures { λ r. ⌜ take (min r mostRecords) (recordsOf (now (numbers .exit)) (now (pdcps .exit)) (now (marks .exit)))
         ≡ drop gone (take (min word mostRecords) (recordsOf (now (numbers .entry)) (now (pdcps .entry)) (now (marks .entry)))) ⌝ }
+    ensures { λ r. ⌜ (Marked word (now (marks .entry)) → Marked r (now (marks .exit))) ⌝ }
 {
     let held = held_in(word);
     take_off(numbers, held, gone);

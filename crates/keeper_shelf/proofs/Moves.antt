@@ -62,9 +62,6 @@ module _ (a : List ℕ) where
   lowered k j = take j (drop k a) ++ drop j a
 
   module _ (k j : ℕ) where
-    pub lowered-length : j + k ≤ length a → length (lowered k j) ≡ length a
-    lowered-length h = simp (length-append, length-take, length-drop) (omega arith)
-
     -- one move more
     pub lowered-more : j + k < length a → set (lowered k j) j (getD (lowered k j) (j + k) 0) ≡ lowered k (j + 1)
     lowered-more h =

@@ -11,10 +11,9 @@ use borrow.Author.Tests.{ltb-true}
 use Rattle.basics.specs.Basics.{if_then_else_, bit, all}
 use Rattle.frame_layout.specs.Octets.{field}
 use Rattle.frame_layout.specs.Frames.{width, mostHighest, dataType, statusType, Range, Status, Reading, data-of, status-of, refuse, typeIn, listedIn, badLength, countRefused, countIn, fixedEnd, listEnd, statusIn, readStatus, readFrame, inForm}
+use Rattle.frame_layout.specs.Trips.{AreOctets, data-frame, status-frame, WritableStatus}
 use Rattle.circle.specs.Lengths.{modulus}
 use Rattle.basics.proofs.Choices.{and-true}
-use Rattle.frame_layout.proofs.Octets.{AreOctets}
-use Rattle.frame_layout.proofs.Frame.{data-frame, status-frame, WritableStatus}
 use Rattle.frame_layout.proofs.Read.{frame-read, read-is-writable}
 use Rattle.lister_text.specs.Texts.{ascii, tab, lineFeed, rangeText, rangesText}
 use Rattle.lister_text.specs.Hexadecimal.{unreadable, octetsIn}

@@ -1,22 +1,20 @@
 -- All that the lister prints for an input (document 01, its last section): an answer to each of its lines.
 -- Assumes nothing.
-use mathlib.Core.List.{List, [], _∷_, _++_}
+use mathlib.Core.List.{List}
 use Prim.Native.Nat.{ℕ}
-use lib.Dec.{eqb}
-use Rattle.basics.specs.Basics.{if_then_else_}
-use Rattle.lister_text.specs.Texts.{lineFeed, onto}
-use Rattle.lister_answers.specs.Answers.{lineOf}
+use Rattle.lister_text.specs.Hexadecimal.{mostDigits}
+use Rattle.program_lines.specs.Lines.{Answering, linesOf, answers}
+use Rattle.lister_answers.specs.Answers.{lineOf, mostText}
 
--- the lines of an input: what each line feed ends, and what stands behind the last of them, unless that is nothing
-abbrev pub linesOf : List ℕ → List (List ℕ)
-linesOf [] = []
-linesOf (c ∷ cs) = if eqb c lineFeed then [] ∷ linesOf cs else onto c (linesOf cs)
-
--- the answers to lines, one after another
-abbrev pub answersTo : List (List ℕ) → List ℕ
-answersTo [] = []
-answersTo (l ∷ ls) = lineOf l ++ answersTo ls
+-- the lister answers each line by itself: no line with more than the most digits is readable, and an answer has its most octets
+abbrev pub lister : Answering Unit
+lister = record {
+  next = λ (s : Unit) (l : List ℕ). s;
+  answer = λ (s : Unit) (l : List ℕ). lineOf l;
+  mostLine = mostDigits;
+  mostText = mostText;
+}
 
 -- all that the lister prints for an input
 abbrev pub listing : List ℕ → List ℕ
-listing input = answersTo (linesOf input)
+listing input = answers lister tt (linesOf input)

@@ -1,12 +1,13 @@
 // The listing of an input (document 01, its last section), an answer to each of its lines. The input comes in blocks of any size,
 // and the answers go to a buffer that the caller writes out, so that an input of any length takes the same memory.
 ghost use mathlib.Core.Path.{_≡_};
-ghost use mathlib.Core.List.{_++_};
-ghost use Prim.Native.Nat.{_+_, _-_, _≤_, _<_, min};
+ghost use Prim.Native.Nat.{_-_, _≤_, _<_};
 ghost use lib.ListN.{length, take};
 ghost use Rattle.basics.specs.Laid.{Room, Laid};
+ghost use Rattle.program_lines.specs.Feeding.{mostHeld};
 ghost use Rattle.lister_answers.specs.Answers.{mostText};
-ghost use Rattle.lister_lines.specs.Feeding.{mostHeld, kept, feeding, lastIn, leaving, leftBy, Onward};
+ghost use Rattle.lister_lines.specs.Listing.{lister};
+ghost use Rattle.lister_lines.specs.Feeding.{restInto, lastIn, leftBy, Onward};
 
 pub const MOST_HELD: usize = lister_text::MOST_DIGITS + 1; // one more shows that a line is too long
 
@@ -26,24 +27,6 @@ fn empty_frame() -> frame_layout::FrameArray {
     [0; frame_layout::MOST_OCTETS]
 }
 
-// Holds more of an unfinished line, up to the octet that shows that it is too long, and answers how much is held.
-fn hold(part: &[u8], line: &mut LineArray, held: usize) -> usize
-    requires { ⌜ held ≤ mostHeld ⌝ }
-    ensures { λ r. ⌜ take r (now (line .exit)) ≡ kept (take held (now (line .entry)) ++ now (part .entry)) ⌝ }
-    ensures { λ r. ⌜ r ≡ min mostHeld (held + length (now (part .entry))) ⌝ }
-    ensures { λ r. ⌜ length (now (line .exit)) ≡ length (now (line .entry)) ⌝ }
-{
-    let n = basics::least(part.len(), MOST_HELD - held);
-    lister_text::lay_text(&part[..n], line, held)
-}
-
-// How much of a buffer is held: no more than it has.
-fn held_in(line: &[u8], held: usize) -> usize
-    ensures { λ r. ⌜ r ≡ min held (length (now (line .entry))) ⌝ }
-{
-    basics::least(held, line.len())
-}
-
 // Feeds the octets through the first line feed of a block, and answers the line that it ends; or holds the whole block.
 fn feed_line(
     block: &[u8],
@@ -53,14 +36,14 @@ fn feed_line(
     out: &mut [u8],
     at: usize,
 ) -> Fed
-    requires { ⌜ (0 < length (now block)) × (held ≤ mostHeld) × Room (now out) at mostText ⌝ }
+    requires { ⌜ (0 < length (now block)) × (held ≤ mostHeld lister) × Room (now out) at mostText ⌝ }
     ensures { λ r. ⌜ Onward (now (block .entry)) (now (line .entry)) (now (out .entry)) held at r (now (line .exit)) (now (out .exit)) ⌝ }
 {
     let end = lister_text::line_end(block);
     if end == block.len() {
         return Fed {
             taken: end,
-            held: hold(block, line, held),
+            held: program_lines::hold(block, line, held),
             at: at,
         };
     }
@@ -72,7 +55,7 @@ fn feed_line(
             at: lister_answers::answer(&block[..end], frame, out, at),
         };
     }
-    let held = hold(&block[..end], line, held);
+    let held = program_lines::hold(&block[..end], line, held);
     Fed {
         taken: end + 1,
         held: 0,
@@ -83,11 +66,10 @@ fn feed_line(
 // Feeds a block, until it is taken whole or the output has no more room for any answer.
 pub fn feed(block: &[u8], line: &mut LineArray, held: usize, out: &mut [u8], at: usize) -> Fed
     ensures { λ r. ⌜ leftBy r (now (line .exit)) (now (out .exit))
-        ≡ leaving (length (now (block .entry))) (now (out .entry)) at
-        (feeding (length (now (out .entry)) - at) (take held (now (line .entry))) (now (block .entry))) ⌝ }
+        ≡ restInto (length (now (block .entry))) (take held (now (line .entry))) (now (block .entry)) (now (out .entry)) at ⌝ }
 {
     let mut frame = empty_frame();
-    let mut held = held_in(line, held);
+    let mut held = program_lines::held_in(line, held);
     let mut at = at;
     let mut taken = 0;
     while taken < block.len() {

@@ -11,7 +11,8 @@ use borrow.Author.Tests.{lt-ltb, le-ltb, le-leb, lt-leb}
 use lib.ListN.{length, getD, drop}
 use lib.Seq.{drop-cons}
 use Rattle.basics.specs.Basics.{all}
-use Rattle.frame_layout.proofs.Octets.{AreOctets, none-are, cons-are}
+use Rattle.frame_layout.specs.Trips.{AreOctets}
+use Rattle.frame_layout.proofs.Octets.{none-are, cons-are}
 use Rattle.lister_text.specs.Hexadecimal.{among, digitOf, isDigit, octetOf, octetsIn}
 use Rattle.lister_text.proofs.Cases.{below-or}
 

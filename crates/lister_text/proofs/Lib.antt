@@ -3,3 +3,4 @@ pub mod Decimal
 pub mod Hex
 pub mod Laying
 pub mod Holding
+pub mod Unique

@@ -1,25 +1,21 @@
 -- A refused call changes nothing: of each machine, whatever its state (a refused status: Reported.antt).
 -- Assumes nothing.
-use mathlib.Core.Path.{_≡_, refl}
+use mathlib.Core.Path.{refl}
 use mathlib.Core.Bool.{Bool, true, false, not}
 use mathlib.Core.List.{List, [], _∷_}
 use mathlib.Core.Option.{Option, none, some}
 use Prim.Native.Nat.{ℕ, _+_, _/_}
 use lib.Dec.{eqb, leb, ltb}
-use lib.ListN.{length, getD, take, drop}
-use Rattle.basics.specs.Basics.{if_then_else_, _and_, _or_, alike, isDone}
+use lib.ListN.{length, take, drop}
+use Rattle.basics.specs.Basics.{if_then_else_, _and_, _or_, alike}
 use Rattle.basics.proofs.Choices.{contrary}
 use Rattle.circle.specs.Circle.{forward}
 use Rattle.circle.specs.Lengths.{isLong, pdcps, modulusOf}
 use Rattle.frame_layout.specs.Frames.{Status, Reading, data-of, status-of, refuse, readFrame}
-use Rattle.bearer.specs.Bearer.{After, refusing, answering, mostRuns, mostRecords, mostEntries}
+use Rattle.bearer.specs.Bearer.{After, Keeps, refusing, answering, mostRuns, mostRecords, mostEntries}
 use Rattle.bearer.specs.Losses.{beforeBase, topOf}
 use Rattle.bearer.specs.Keeper as K
 use Rattle.bearer.specs.Ledger as G
-
--- what a call leaves where it is refused: the state that was there
-pub record Keeps {S A : Type 0} (s : S) (a : After S A) : Type 0 where
-  pub same : isDone (a .answer) ≡ false → a .state ≡ s
 
 -- a choice of two calls that keep
 pub either-keeps : {S A : Type 0} (s : S) (b : Bool) (x y : After S A) → Keeps s x → Keeps s y → Keeps s (if b then x else y)
@@ -38,28 +34,28 @@ answer-keeps s t a = record { same = λ e. absurd (contrary refl e) }
 
 pub send-keeps : {A : Type 0} (l : G.Ledger A) (p : ℕ) (a : A) → Keeps l (G.send l p a)
 send-keeps l p a =
-    either-keeps l (l .closed) _ _ (refusal-keeps _ l 9)
-    (either-keeps l (not (ltb p (pdcps (l .bits)))) _ _ (refusal-keeps _ l 10)
-    (either-keeps l (not (G.inOrder l p)) _ _ (refusal-keeps _ l 35)
-    (either-keeps l (leb mostEntries (length (l .entries))) _ _ (refusal-keeps _ l 36) (answer-keeps l (G.sentState l p a) (l .next)))))
+    either-keeps l (l .closed) _ _ (refusal-keeps _ l _)
+    (either-keeps l (not (ltb p (pdcps (l .bits)))) _ _ (refusal-keeps _ l _)
+    (either-keeps l (not (G.inOrder l p)) _ _ (refusal-keeps _ l _)
+    (either-keeps l (leb mostEntries (length (l .entries))) _ _ (refusal-keeps _ l _) (answer-keeps l (G.sentState l p a) (l .next)))))
 
 marked-keeps : {A : Type 0} (l : G.Ledger A) (s : Status) (m : Option (G.Passed A)) → Keeps l (G.acceptMarked l s m)
-marked-keeps l s none = refusal-keeps _ l 33
+marked-keeps l s none = refusal-keeps _ l _
 marked-keeps l s (some m) =
-    either-keeps l (not (eqb (s .highest) (l .highest) or G.waitsFor (s .highest) (m .entries))) _ _ (refusal-keeps _ l 34) (answer-keeps l _ _)
+    either-keeps l (not (eqb (s .highest) (l .highest) or G.waitsFor (s .highest) (m .entries))) _ _ (refusal-keeps _ l _) (answer-keeps l _ _)
 
 reading-keeps : {A : Type 0} (l : G.Ledger A) (r : Reading) → Keeps l (G.acceptReading l r)
-reading-keeps l (data-of long n) = refusal-keeps _ l 31
+reading-keeps l (data-of long n) = refusal-keeps _ l _
 reading-keeps l (status-of s) =
-    either-keeps l (not (alike (s .long) (isLong (l .bits)))) _ _ (refusal-keeps _ l 31)
-    (either-keeps l (leb (pdcps (l .bits)) (s .highest)) _ _ (refusal-keeps _ l 32) (marked-keeps l s (G.markLost (l .bits) (l .entries) (s .ranges))))
-reading-keeps l (refuse n) = refusal-keeps _ l n
+    either-keeps l (not (alike (s .long) (isLong (l .bits)))) _ _ (refusal-keeps _ l _)
+    (either-keeps l (leb (pdcps (l .bits)) (s .highest)) _ _ (refusal-keeps _ l _) (marked-keeps l s (G.marking l s)))
+reading-keeps l (refuse n) = refusal-keeps _ l _
 
 pub accept-keeps : {A : Type 0} (l : G.Ledger A) (o : List ℕ) → Keeps l (G.accept l o)
-accept-keeps l o = either-keeps l (l .closed) _ _ (refusal-keeps _ l 9) (reading-keeps l (readFrame o))
+accept-keeps l o = either-keeps l (l .closed) _ _ (refusal-keeps _ l _) (reading-keeps l (readFrame o))
 
 take-from-keeps : {A : Type 0} (l : G.Ledger A) (front rest : List (G.Entry A)) → Keeps l (G.takeFrom l front rest)
-take-from-keeps l front [] = refusal-keeps _ l 38
+take-from-keeps l front [] = refusal-keeps _ l _
 take-from-keeps l front (e ∷ es) = answer-keeps l _ _
 
 pub take-keeps : {A : Type 0} (l : G.Ledger A) → Keeps l (G.takeOldest l)
@@ -69,33 +65,33 @@ take-keeps l = take-from-keeps l (take (G.takeAt (l .closed) (l .entries)) (l .e
 
 arrive-at-keeps : (k : K.Keeper) (n p i d : ℕ) → Keeps k (K.arriveAt k n p i d)
 arrive-at-keeps k n p i d =
-    either-keeps k (K.hasRecord k n i) _ _ (refusal-keeps _ k 12)
-    (either-keeps k (leb (modulusOf (k .bits) / 2) (K.floor k + d)) _ _ (refusal-keeps _ k 13)
-    (either-keeps k (ltb mostRuns (length (K.runsAfter k (K.limitOf d)))) _ _ (refusal-keeps _ k 14)
-    (either-keeps k (leb mostRecords (length (k .records))) _ _ (refusal-keeps _ k 15) (answer-keeps k _ _))))
+    either-keeps k (K.hasRecord k n i) _ _ (refusal-keeps _ k _)
+    (either-keeps k (leb (modulusOf (k .bits) / 2) (K.floor k + d)) _ _ (refusal-keeps _ k _)
+    (either-keeps k (ltb mostRuns (length (K.runsAfter k (K.limitOf d)))) _ _ (refusal-keeps _ k _)
+    (either-keeps k (leb mostRecords (length (k .records))) _ _ (refusal-keeps _ k _) (answer-keeps k _ _))))
 
 pub arrive-keeps : (k : K.Keeper) (n p : ℕ) → Keeps k (K.arrive k n p)
 arrive-keeps k n p =
-    either-keeps k (k .closed) _ _ (refusal-keeps _ k 9)
-    (either-keeps k (not (ltb n (modulusOf (k .bits)) and ltb p (pdcps (k .bits)))) _ _ (refusal-keeps _ k 10)
-    (either-keeps k (beforeBase (modulusOf (k .bits)) (k .base) n) _ _ (refusal-keeps _ k 11)
+    either-keeps k (k .closed) _ _ (refusal-keeps _ k _)
+    (either-keeps k (not (ltb n (modulusOf (k .bits)) and ltb p (pdcps (k .bits)))) _ _ (refusal-keeps _ k _)
+    (either-keeps k (beforeBase (modulusOf (k .bits)) (k .base) n) _ _ (refusal-keeps _ k _)
     (arrive-at-keeps k n p (K.placeOf k (forward (modulusOf (k .bits)) (k .base) n)) (forward (modulusOf (k .bits)) (k .base) n))))
 
 expire-below-keeps : (k : K.Keeper) (top : ℕ) → Keeps k (K.expireBelow k top)
 expire-below-keeps k top =
-    either-keeps k (eqb top 0) _ _ (refusal-keeps _ k 17)
-    (either-keeps k (ltb mostRuns (length (K.runsAfter k top))) _ _ (refusal-keeps _ k 14) (answer-keeps k _ _))
+    either-keeps k (eqb top 0) _ _ (refusal-keeps _ k _)
+    (either-keeps k (ltb mostRuns (length (K.runsAfter k top))) _ _ (refusal-keeps _ k _) (answer-keeps k _ _))
 
 pub expire-keeps : (k : K.Keeper) → Keeps k (K.expire k)
 expire-keeps k =
-    either-keeps k (k .closed) _ _ (refusal-keeps _ k 9) (expire-below-keeps k (topOf (modulusOf (k .bits)) (k .base) (K.held k)))
+    either-keeps k (k .closed) _ _ (refusal-keeps _ k _) (expire-below-keeps k (topOf (modulusOf (k .bits)) (k .base) (K.held k)))
 
 confirm-at-keeps : (k : K.Keeper) (n i : ℕ) → Keeps k (K.confirmAt k n i)
 confirm-at-keeps k n i =
-    either-keeps k (not (beforeBase (modulusOf (k .bits)) (k .base) n) or getD (k .records) i K.noRecord .confirmed) _ _ (refusal-keeps _ k 16) (answer-keeps k _ _)
+    either-keeps k (K.notNow k n i) _ _ (refusal-keeps _ k _) (answer-keeps k _ _)
 
 pub confirm-keeps : (k : K.Keeper) (n : ℕ) → Keeps k (K.confirm k n)
 confirm-keeps k n =
-    either-keeps k (k .closed) _ _ (refusal-keeps _ k 9)
-    (either-keeps k (not (ltb n (modulusOf (k .bits)))) _ _ (refusal-keeps _ k 10)
-    (either-keeps k (leb (length (K.held k)) (K.indexOf n (K.held k))) _ _ (refusal-keeps _ k 16) (confirm-at-keeps k n (K.indexOf n (K.held k)))))
+    either-keeps k (k .closed) _ _ (refusal-keeps _ k _)
+    (either-keeps k (not (ltb n (modulusOf (k .bits)))) _ _ (refusal-keeps _ k _)
+    (either-keeps k (leb (length (K.held k)) (K.indexOf n (K.held k))) _ _ (refusal-keeps _ k _) (confirm-at-keeps k n (K.indexOf n (K.held k)))))

@@ -1,18 +1,17 @@
 -- What a status leaves, in every state: it is refused and nothing changes, or its frame stands at the front of the buffer and the state is the
 -- reported one.
 -- Assumes nothing.
-use mathlib.Core.Path.{_≡_, refl, sym, _∙_, ap}
+use mathlib.Core.Path.{_≡_, refl, sym, ap}
 use mathlib.Core.Bool.{Bool, true, false}
 use mathlib.Core.List.{List, _++_}
 use Prim.Native.Nat.{ℕ, _≤_}
 use native.Mathlib.Omega.{arith}
-use lib.Dec.{ltb}
-use lib.ListN.{length, take, drop, length-append}
-use lib.Seq.{take-append-seam}
+use lib.ListN.{length, drop, length-append}
 use Rattle.basics.specs.Basics.{if_then_else_, _and_, done, isDone}
 use Rattle.basics.proofs.Choices.{contrary, done-one, never-done}
-use Rattle.frame_layout.specs.Frames.{Status, Written, Within, mostRanges, statusOctets, writeStatus}
-use Rattle.frame_layout.proofs.Within.{Leaves, refuses as not-written, writes, status-leaves}
+use Rattle.frame_layout.specs.Frames.{Status, Written, Within, statusOctets, writeStatus}
+use Rattle.frame_layout.specs.Trips.{Leaves, refuses as not-written, writes}
+use Rattle.frame_layout.proofs.Within.{status-leaves}
 use Rattle.bearer.specs.Keeper as K
 
 -- what a status s leaves
@@ -25,7 +24,7 @@ pub data Reports (k : K.Keeper) (s : Status) (final : Bool) (buffer : List ℕ) 
   })
 
 pub reports : (k : K.Keeper) (d m : ℕ) (final : Bool) (buffer : List ℕ) → Reports k (K.statusNow k d m final) final buffer (K.status k d m final buffer)
-reports k d m final buffer = by (k .closed) (final and ltb mostRanges (length (k .runs))) refl
+reports k d m final buffer = by (k .closed) (K.finalTooEarly k final) refl
   where
     written : {w : Written} → k .closed ≡ false → Leaves (statusOctets (K.statusNow k d m final)) buffer w → Reports k (K.statusNow k d m final) final buffer (K.reportedAs k final w)
     written c (not-written n) = refuses n
@@ -45,12 +44,13 @@ module _ {k : K.Keeper} {s : Status} {final : Bool} {buffer : List ℕ} {c : ℕ
   reported-state (refuses n) e = never-done n c e
   reported-state (builds o room) e = refl
 
-  -- and its frame
-  pub reported-frame : {r : K.Reported} → Reports k s final buffer r → r .answer ≡ done c → take c (r .buffer) ≡ statusOctets s
+  -- answers its frame's length, and leaves the frame at the front of the buffer
+  pub reported-frame : {r : K.Reported} → Reports k s final buffer r → r .answer ≡ done c
+      → (c ≡ length (statusOctets s)) × (r .buffer ≡ statusOctets s ++ drop c buffer)
   reported-frame (refuses n) e = never-done n c e
   reported-frame (builds o room) e =
-      ap (λ (n : ℕ). take n (statusOctets s ++ drop (length (statusOctets s)) buffer)) (sym (done-one (length (statusOctets s)) c e))
-      ∙ take-append-seam (statusOctets s) (drop (length (statusOctets s)) buffer)
+      let long : length (statusOctets s) ≡ c = done-one (length (statusOctets s)) c e in
+      (sym long, ap (λ (n : ℕ). statusOctets s ++ drop n buffer) long)
 
 -- ---- one that is refused changes neither state nor buffer
 

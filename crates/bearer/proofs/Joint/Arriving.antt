@@ -15,7 +15,7 @@ use Rattle.bearer.specs.Keeper as K
 use Rattle.bearer.specs.Rule.{Fates, isIn, isOpen, below, openBelow, declare, receive, arrival}
 use Rattle.bearer.specs.Packets.{In}
 use Rattle.bearer.specs.World.{World, _with-keeper_, _with-fates_, atSecondary}
-use Rattle.bearer.specs.KeeperMeaning.{Held, indexes}
+use Rattle.bearer.specs.Account.{Held, indexes}
 use Rattle.bearer.proofs.Lists.Elements.{in-tail, in-cons, in-append, in-last, each-inserted, inserted-in, in-none}
 use Rattle.bearer.proofs.Answers.Accepted.{same-state}
 use Rattle.bearer.proofs.Secondary.Index.{Indexed, image, newHeld, placeI, arrivedI}
@@ -138,7 +138,7 @@ module _ {L first : ℕ} (ok : isLength L ≡ true) {w : World} (j : Joint L fir
       (λ fresh.
       subst (Joint L first)
       (sym (ap (λ (k : K.Keeper). atSecondary w k (arrival (w .fates) n)) (same-state (copy-taken ok j o d sent-it fresh))
-      ∙ ap (λ (r : Fates). w with-keeper image L first (arrivedI (j .second .a) (getD (w .sent) n 0) (placeI (j .second .a) n) d) with-fates r) (otherwise (w .fates) (arrival (w .fates) n) o)))
+      ∙ ap (λ (r : Fates). w with-keeper image L first (arrivedI (j .second .a) (getD (w .sent) n 0) (placeI (j .second .a) n) d) with-fates r) (otherwise (w .fates) (arrival (w .fates) n) (sym (j .closes .secondary) ∙ o))))
       (joint-arrived ok j o d sent-it fresh))
       (tested (isIn n (w .fates .received)))
 

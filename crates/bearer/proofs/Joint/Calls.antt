@@ -3,19 +3,19 @@
 use mathlib.Core.Path.{_≡_, refl, sym, _∙_, ap, subst}
 use mathlib.Core.Bool.{Bool, true, false}
 use mathlib.Core.List.{List, [], _∷_, _++_, append-nil}
-use mathlib.Core.Logic.{_⊎_, ⊎-elim}
+use mathlib.Core.Logic.{⊎-elim}
 use Prim.Native.Nat.{ℕ, _≤_, _<_}
 use native.Mathlib.Omega.{arith}
 use lib.ListN.{length, take, length-append, List·getD-append}
-use Rattle.basics.specs.Basics.{if_then_else_, refused, isDone}
-use Rattle.basics.proofs.Choices.{order}
+use Rattle.basics.specs.Basics.{if_then_else_, Outcome, done, refused, isDone}
+use Rattle.basics.proofs.Choices.{contrary, order}
 use Rattle.circle.specs.Lengths.{isLength}
 use Rattle.bearer.specs.Keeper as K
 use Rattle.bearer.specs.Ledger as G
 use Rattle.bearer.specs.Rule.{Fates, isIn}
 use Rattle.bearer.specs.Packets.{packets, In}
-use Rattle.bearer.specs.World.{World, _with-ledger_, _with-sent_, _with-fates_, _with-freed_, without, afterSend, atSecondary, atMaster, afterTake}
-use Rattle.bearer.specs.KeeperMeaning.{Held}
+use Rattle.bearer.specs.World.{World, _with-keeper_, _with-ledger_, _with-sent_, _with-fates_, _with-freed_, without, hadFinal, openedOr, afterSend, atSecondary, atMaster, afterTake}
+use Rattle.bearer.specs.Account.{Held}
 use Rattle.bearer.proofs.Lists.Mapped.{each-so, each-both}
 use Rattle.bearer.proofs.Lists.Elements.{in-head, in-tail, in-left, in-right, in-last, in-take, in-none, not-in}
 use Rattle.bearer.proofs.Answers.Refused.{accept-keeps, arrive-keeps}
@@ -85,6 +85,7 @@ joint-sends {L} {first} {w} {p} ok j s =
       };
       flight = flight-onward on (λ i h. absurd (in-none h)) (j .flight);
       frames = j .frames;
+      closes = j .closes;
     }
 
 -- the world that a send leaves, by whether it was accepted and the ledger
@@ -139,18 +140,32 @@ joint-take {L} {first} {w} j = ⊎-elim (λ e. subst (Joint L first) (sym (ap (a
           };
           flight = rw (closed, highest) (j .flight);
           frames = j .frames;
+          closes = rw closed (j .closes);
         }
 
 -- ---- numbers that the secondary refuses
 
 -- a world whose secondary and whose fates are as they were
 pub joint-kept : {L first : ℕ} {w : World} → Joint L first w → (k : K.Keeper) (r : Fates) → k ≡ w .keeper → (w .keeper .closed ≡ false → r ≡ w .fates) → Joint L first (atSecondary w k r)
-joint-kept {L} {first} {w} j k r e f = subst (Joint L first) (sym (ap (λ (x : K.Keeper). atSecondary w x r) e ∙ ap (λ (x : Fates). w with-fates x) (fates (w .keeper .closed) refl))) j
+joint-kept {L} {first} {w} j k r e f = subst (Joint L first) (sym (ap (λ (x : K.Keeper). atSecondary w x r) e ∙ ap (λ (x : Fates). w with-fates x) (fates (hadFinal (w .built)) (j .closes .secondary)))) j
   where
     fates : (b : Bool) → w .keeper .closed ≡ b → (if b then w .fates else r) ≡ w .fates
     fates true c = refl
     fates false c = f c
 
-pub joint-stray : {L first : ℕ} {w : World} → Joint L first w → (n p : ℕ) → (K.arrive (w .keeper) n p .answer ≡ refused 9) ⊎ (K.arrive (w .keeper) n p .answer ≡ refused 10)
+pub joint-stray : {L first : ℕ} {w : World} → Joint L first w → (n p : ℕ) → isDone (K.arrive (w .keeper) n p .answer) ≡ false
     → Joint L first (atSecondary w (K.arrive (w .keeper) n p .state) (w .fates))
-joint-stray {w = w} j n p h = joint-kept j (K.arrive (w .keeper) n p .state) (w .fates) (arrive-keeps (w .keeper) n p .same (⊎-elim (ap isDone) (ap isDone) h)) (λ c. refl)
+joint-stray {w = w} j n p h = joint-kept j (K.arrive (w .keeper) n p .state) (w .fates) (arrive-keeps (w .keeper) n p .same h) (λ c. refl)
+
+-- ---- an open that is refused
+
+-- it leaves the end that was there
+kept-open : {S : Type 0} (s : S) (x : Outcome S) → isDone x ≡ false → openedOr s x ≡ s
+kept-open s (done fresh) e = absurd (contrary refl e)
+kept-open s (refused n) e = refl
+
+pub joint-open-secondary : {L first : ℕ} {w : World} → Joint L first w → (x : Outcome K.Keeper) → isDone x ≡ false → Joint L first (w with-keeper openedOr (w .keeper) x)
+joint-open-secondary {L} {first} {w} j x e = subst (λ (k : K.Keeper). Joint L first (w with-keeper k)) (sym (kept-open (w .keeper) x e)) j
+
+pub joint-open-master : {L first : ℕ} {w : World} → Joint L first w → (x : Outcome (G.Ledger ℕ)) → isDone x ≡ false → Joint L first (w with-ledger openedOr (w .ledger) x)
+joint-open-master {L} {first} {w} j x e = subst (λ (l : G.Ledger ℕ). Joint L first (w with-ledger l)) (sym (kept-open (w .ledger) x e)) j

@@ -16,7 +16,7 @@ use Rattle.circle.specs.Lengths.{isLength, modulusOf}
 use Rattle.bearer.specs.Keeper as K
 use Rattle.bearer.specs.Packets.{numberOf, In, Rising, Each}
 use Rattle.bearer.specs.World.{World, _with-keeper_, _with-confirmed_, latest, afterConfirm}
-use Rattle.bearer.specs.KeeperMeaning.{Held, indexes}
+use Rattle.bearer.specs.Account.{Held, indexes}
 use Rattle.bearer.proofs.Lists.Mapped.{each-so, each-at}
 use Rattle.bearer.proofs.Lists.Elements.{in-head, in-tail, in-cons, each-set, rising-head, rising-tail, in-none}
 use Rattle.bearer.proofs.Lists.Numbers.{positive, same-packet}
@@ -160,6 +160,7 @@ module _ {L first : ℕ} (ok : isLength L ≡ true) {w : World} (j : Joint L fir
         there = j .there;
         flight = j .flight;
         frames = j .frames;
+        closes = record { secondary = ap (λ (k : K.Keeper). k .closed) (sym (s .keeper-is)) ∙ j .closes .secondary; master = j .closes .master };
       }
 
 pub joint-confirm : {L first : ℕ} {w : World} → isLength L ≡ true → Joint L first w → (n : ℕ)

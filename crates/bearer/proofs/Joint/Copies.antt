@@ -1,12 +1,13 @@
 -- What copies are answered while both ends are joined and the secondary is open: an open packet is taken, with the count that the rule declares
--- lost; any other is late or has a record.
+-- lost; any other is late if it lies before base, and has a record if not.
 -- Assumes nothing.
 use mathlib.Core.Path.{_≡_, sym, _∙_, ap, subst}
 use mathlib.Core.Bool.{Bool, true, false}
-use mathlib.Core.Logic.{inl, inr, ⊎-elim}
+use mathlib.Core.Logic.{⊎-elim}
 use Prim.Native.Nat.{ℕ, _+_, _-_, _≤_, _<_}
 use native.Mathlib.Omega.{arith}
-use borrow.Author.Tests.{lt-leb, le-ltb}
+use borrow.Author.Tests.{lt-leb, lt-ltb, le-ltb}
+use lib.Dec.{ltb}
 use lib.ListN.{length, getD}
 use Rattle.basics.specs.Basics.{done}
 use Rattle.basics.proofs.Choices.{tested, otherwise, chosen, order}
@@ -22,7 +23,7 @@ use Rattle.bearer.proofs.Lists.Lengths.{roomy}
 use Rattle.bearer.proofs.Answers.Accepted.{same-answer}
 use Rattle.bearer.proofs.Secondary.Index.{Indexed, image, imageAfter, floorI, placeI, givenUpI, runsAfterI, arrivedI, arriveI}
 use Rattle.bearer.proofs.Secondary.Image.{late, image-arrive}
-use Rattle.bearer.proofs.Secondary.Open.{received-closed}
+use Rattle.bearer.proofs.Secondary.Open.{received-closed, one-lowest}
 use Rattle.bearer.proofs.Secondary.Follows.{follows-has}
 use Rattle.bearer.proofs.Secondary.FollowsArrival.{arrival-count}
 use Rattle.bearer.proofs.Secondary.FollowsMeans.{follows-reach}
@@ -90,21 +91,26 @@ module _ {L first : ℕ} (ok : isLength L ≡ true) {w : World} (j : Joint L fir
   abbrev declared : ℕ → ℕ
   declared i = length (arrival (w .fates) i .lost) - length (w .fates .lost)
 
-  answers : (i : ℕ) → i < length (w .sent) → length (w .sent) ≤ i + half L → Answered (isOpen (w .fates) i) (declared i) (copied L first w i .answer)
-  answers i h k = ⊎-elim before (λ l. let e : a .base + (i - a .base) ≡ i = omega arith in subst (λ (x : ℕ). Answered (isOpen (w .fates) x) (declared x) (copied L first w x .answer)) e (from (i - a .base) (omega arith))) (order i (a .base))
-    where
-      before : i < a .base → Answered (isOpen (w .fates) i) (declared i) (copied L first w i .answer)
-      before l = rw (j .second .follows .fates .lowest .none-below i l) (inl (same-answer (copy-late i h k l)))
+  -- a copy of a packet is answered so, by the lowest open packet
+  abbrev Right : ℕ → Type 0
+  Right i = Answered (isOpen (w .fates) i) (ltb i (a .base)) (declared i) (copied L first w i .answer)
 
-      from : (d : ℕ) → a .base + d < length (w .sent) → Answered (isOpen (w .fates) (a .base + d)) (declared (a .base + d)) (copied L first w (a .base + d) .answer)
+  answers : (i : ℕ) → i < length (w .sent) → length (w .sent) ≤ i + half L → Right i
+  answers i h k = ⊎-elim before (λ l. let e : a .base + (i - a .base) ≡ i = omega arith in subst Right e (from (i - a .base) (omega arith))) (order i (a .base))
+    where
+      before : i < a .base → Right i
+      before l = rw (j .second .follows .fates .lowest .none-below i l, lt-ltb i (a .base) l) (same-answer (copy-late i h k l))
+
+      from : (d : ℕ) → a .base + d < length (w .sent) → Right (a .base + d)
       from d s =
           let x = a .base + d in
-          ⊎-elim (λ got. rw (received-closed (w .fates) x got) (inr (same-answer (copy-recorded d s got))))
+          ⊎-elim (λ got. rw (received-closed (w .fates) x got, le-ltb x (a .base) (omega arith)) (same-answer (copy-recorded d s got)))
           (λ fresh.
           let count = arrival-count (j .second .follows) d fresh (floor-near ok j o d s fresh) in
           let n : sizeOf (givenUpI a (K.limitOf d)) ≡ declared x = omega (arith, count) in
-          subst (λ (b : Bool). Answered b (declared x) (copied L first w x .answer)) (sym (was-open ok j o d s fresh)) (same-answer (copy-taken d s fresh) ∙ ap done n))
+          subst (λ (b : Bool). Answered b (ltb x (a .base)) (declared x) (copied L first w x .answer)) (sym (was-open ok j o d s fresh)) (same-answer (copy-taken d s fresh) ∙ ap done n))
           (tested (isIn x (w .fates .received)))
 
 pub joint-answers : {L first : ℕ} {w : World} → isLength L ≡ true → Joint L first w → CopiesAnswered L first w
-joint-answers ok j o i h = answers ok j o i (h .0) (h .1)
+joint-answers {w = w} ok j o i base h low =
+    rw (one-lowest (w .fates) base (j .second .a .base) low (j .second .follows .fates .lowest)) (answers ok j (j .closes .secondary ∙ o) i (h .0) (h .1))

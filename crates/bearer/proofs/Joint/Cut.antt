@@ -15,14 +15,14 @@ use Rattle.bearer.specs.Losses.{Gap}
 use Rattle.bearer.specs.Keeper.{Keeper}
 use Rattle.bearer.specs.Rule.{Fates, isIn}
 use Rattle.bearer.specs.Packets.{In, Each}
-use Rattle.bearer.specs.KeeperMeaning.{Held, indexes, packetsOf, Maximal, BeforeFirst, PastFirst}
+use Rattle.bearer.specs.Account.{Held, indexes, packetsOf, Maximal}
 use Rattle.bearer.proofs.Lists.Mapped.{each-so, each-take, each-at, each-both}
 use Rattle.bearer.proofs.Lists.Elements.{in-left, in-right, in-take, in-drop, in-split, each-in, in-none, parts-apart, through, past-place, first-behind, some-behind, run-within}
 use Rattle.bearer.proofs.Lists.Rows.{run-in, runs-from}
 use Rattle.bearer.proofs.Secondary.Index.{Indexed, noHeld, mayGoI, letGoI}
 use Rattle.bearer.proofs.Secondary.Open.{closed}
 use Rattle.bearer.proofs.Secondary.Runs.{maximal-first, maximal-drop}
-use Rattle.bearer.proofs.Secondary.FollowsStatus.{toldAfter, let-go, let-go-ends, parts, left-out}
+use Rattle.bearer.proofs.Secondary.FollowsStatus.{BeforeFirst, PastFirst, toldAfter, let-go, let-go-ends, parts, left-out}
 use Rattle.bearer.proofs.Master.Pdcps.{pdcpOf}
 use Rattle.bearer.proofs.Joint.Joined.{Second}
 

@@ -8,16 +8,16 @@ use Prim.Native.Nat.{ℕ, suc, _+_, _-_, _≤_, _<_}
 use native.Mathlib.Omega.{arith}
 use lib.ListN.{length, take, drop, length-append, length-drop, length-map}
 use lib.Seq.{take-add, drop-drop, length-take-le}
-use Rattle.basics.proofs.Choices.{contrary, order}
+use Rattle.basics.proofs.Choices.{contrary, or-false, or-no, order}
 use Rattle.circle.specs.Lengths.{isLength}
 use Rattle.frame_layout.specs.Frames.{Reading, readFrame}
 use Rattle.bearer.specs.Keeper.{Keeper}
 use Rattle.bearer.specs.Ledger.{accept}
 use Rattle.bearer.specs.Rule.{Fates, isIn, isOpen}
 use Rattle.bearer.specs.Packets.{numberOf, packets, In, inRanges}
-use Rattle.bearer.specs.World.{World, Built, inFlight, without, atMaster, afterDelivery}
+use Rattle.bearer.specs.World.{World, Built, inFlight, finalRead, hadFinal, without, atMaster, afterDelivery}
 use Rattle.bearer.specs.Demand3.{inFrames, rangesRead, lastConfirmed, confirmedThen, Accepts}
-use Rattle.bearer.specs.KeeperMeaning.{packetsOf}
+use Rattle.bearer.specs.Account.{packetsOf}
 use Rattle.bearer.proofs.Lists.Elements.{in-left, in-right, in-append, in-take, in-drop, rising-take, rising-drop, not-in, parts-apart}
 use Rattle.bearer.proofs.Master.Marks.{Names}
 use Rattle.bearer.proofs.Master.Accepts.{Highest, stays, moves-to, Took, takes}
@@ -45,6 +45,13 @@ frames-append L [] ys = refl
 frames-append L (x ∷ xs) ys =
     ap (λ (l : List ℕ). inRanges L (rangesRead (readFrame (x .frame))) ++ l) (frames-append L xs ys)
     ∙ sym (append-assoc (inRanges L (rangesRead (readFrame (x .frame)))) (inFrames L xs) (inFrames L ys))
+
+-- behind frames without Final: Final is in the last or in none
+pub final-last : (bs : List Built) (b : Built) → hadFinal bs ≡ false → hadFinal (bs ++ (b ∷ [])) ≡ finalRead (readFrame (b .frame))
+final-last [] b e = or-no (finalRead (readFrame (b .frame)))
+final-last (c ∷ bs) b e =
+    let none = or-false (finalRead (readFrame (c .frame))) (hadFinal bs) e in
+    rw (none .0) (final-last bs b (none .1))
 
 -- ---- base is no farther than what was sent
 
@@ -199,6 +206,12 @@ module _ {L first : ℕ} (ok : isLength L ≡ true) {w : World} (j : Joint L fir
           all-told = j .frames .all-told;
           count-there = count;
           delivered-most = let n = ap length e in let d = length-drop (w .delivered) (w .built) in omega (arith, n, d);
+        };
+        closes = record {
+          secondary = j .closes .secondary;
+          master =
+              took .closed-by
+              ∙ sym (ap hadFinal (parts .0) ∙ final-last (take (w .delivered) (w .built)) b (sym (j .closes .master) ∙ open-end) ∙ ap finalRead (s .carries .read));
         };
       }
 

@@ -10,7 +10,7 @@ use native.Mathlib.Nat.{mod-lt}
 use Rattle.circle.specs.Lengths.{isLength, modulusOf, half, pdcps, pdcpBefore}
 use Rattle.bearer.specs.Keeper as K
 use Rattle.bearer.specs.Ledger as G
-use Rattle.bearer.specs.World.{World, freshWorld, Event, send, copy, stray, expire, confirm, status, deliver, other, take-one, step}
+use Rattle.bearer.specs.World.{World, freshWorld, Event, send, copy, stray, expire, confirm, status, deliver, other, take-one, open-secondary, open-master, step}
 use Rattle.bearer.specs.Demand3.{OpenedAlike, Allowed, AllAllowed, after, Kept, Demand3}
 use Rattle.bearer.proofs.Lists.Elements.{in-none}
 use Rattle.bearer.proofs.Lists.Lengths.{roomy}
@@ -21,7 +21,7 @@ use Rattle.bearer.proofs.Secondary.Follows.{follows-start}
 use Rattle.bearer.proofs.Master.Applied.{master-opened}
 use Rattle.bearer.proofs.Joint.Flight.{all-there}
 use Rattle.bearer.proofs.Joint.Joined.{Joint, joint-reported, joint-freed}
-use Rattle.bearer.proofs.Joint.Calls.{joint-send, joint-other, joint-take, joint-stray}
+use Rattle.bearer.proofs.Joint.Calls.{joint-send, joint-other, joint-take, joint-stray, joint-open-secondary, joint-open-master}
 use Rattle.bearer.proofs.Joint.Delivery.{joint-accepts, joint-deliver}
 use Rattle.bearer.proofs.Joint.Reporting.{joint-status}
 use Rattle.bearer.proofs.Joint.Confirming.{joint-confirm}
@@ -62,6 +62,7 @@ module _ (L first f : ℕ) where
         };
         flight = all-there;
         frames = record { all-told = refl; count-there = refl; delivered-most = omega arith };
+        closes = record { secondary = refl; master = refl };
       }
 
   joint-start : (w : World) → OpenedAlike L first f w → (isLength L ≡ true) × Joint L first w
@@ -82,6 +83,8 @@ joint-step ok j (status d m final buffer) h = joint-status ok j d m final buffer
 joint-step ok j deliver h = joint-deliver ok j
 joint-step ok j (other o) h = joint-other j o h
 joint-step ok j take-one h = joint-take j
+joint-step ok j (open-secondary bits n f) h = joint-open-secondary j (K.openKeeper bits n f) h
+joint-step ok j (open-master bits n f) h = joint-open-master j (G.openLedger bits n f) h
 
 joint-run : {L first : ℕ} (w : World) → isLength L ≡ true → Joint L first w → (es : List Event) → AllAllowed L first w es → Joint L first (after L first w es)
 joint-run w ok j [] a = j
@@ -93,6 +96,7 @@ joint-keeps ok j = record {
   accepted = joint-accepts ok j;
   freed-exactly = joint-freed j;
   copies-answered = joint-answers ok j;
+  final-closes = j .closes;
 }
 
 -- demand 3

@@ -16,7 +16,7 @@ use Rattle.bearer.specs.Keeper as K
 use Rattle.bearer.specs.Rule.{Fates, isOpen, openBelow, expiry, highest}
 use Rattle.bearer.specs.Packets.{In}
 use Rattle.bearer.specs.World.{World, _with-keeper_, _with-fates_, atSecondary}
-use Rattle.bearer.specs.KeeperMeaning.{indexes}
+use Rattle.bearer.specs.Account.{indexes}
 use Rattle.bearer.proofs.Lists.Elements.{in-append}
 use Rattle.bearer.proofs.Answers.Accepted.{same-state}
 use Rattle.bearer.proofs.Secondary.Index.{Indexed, image, runsAfterI, expiredI, expireI}
@@ -109,6 +109,6 @@ joint-expire {L} {first} {w} ok j = ⊎-elim shut unshut (tested (w .keeper .clo
         let some = eqb-false (top (s .a)) 0 z in
         subst (Joint L first)
         (sym (ap (λ (x : K.Keeper). atSecondary w x (expiry (w .fates))) (leaves o (expires (s .follows) some (few ok j o some)))
-        ∙ ap (λ (r : Fates). w with-keeper image L first (expiredI (s .a) (top (s .a))) with-fates r) (otherwise (w .fates) (expiry (w .fates)) o)))
+        ∙ ap (λ (r : Fates). w with-keeper image L first (expiredI (s .a) (top (s .a))) with-fates r) (otherwise (w .fates) (expiry (w .fates)) (sym (j .closes .secondary) ∙ o))))
         (joint-expired ok j o some))
         (tested (eqb (top (s .a)) 0))

@@ -16,7 +16,7 @@ use Rattle.bearer.specs.Losses.{Gap}
 use Rattle.bearer.specs.Rule.{Fates, isIn}
 use Rattle.bearer.specs.Packets.{In, inRanges, numberOf, Each}
 use Rattle.bearer.specs.World.{Built}
-use Rattle.bearer.specs.KeeperMeaning.{runAt, packetsOf}
+use Rattle.bearer.specs.Account.{runAt, packetsOf}
 use Rattle.bearer.proofs.Lists.Elements.{in-append, not-in}
 use Rattle.bearer.proofs.Master.Pdcps.{pdcpOf}
 

@@ -10,10 +10,9 @@ use lib.ListN.{length}
 use Rattle.basics.proofs.Choices.{contrary, order}
 use Rattle.bearer.specs.Keeper.{Keeper}
 use Rattle.bearer.specs.Ledger.{Ledger}
-use Rattle.bearer.specs.Rule.{Fates, isOpen}
+use Rattle.bearer.specs.Rule.{Fates, isOpen, Lowest}
 use Rattle.bearer.specs.Packets.{numberOf, In}
 use Rattle.bearer.specs.World.{World, _with-keeper_, _with-fates_}
-use Rattle.bearer.specs.KeeperMeaning.{Lowest}
 use Rattle.bearer.proofs.Lists.Elements.{in-left}
 use Rattle.bearer.proofs.Secondary.Open.{received-closed, lost-closed, closed}
 use Rattle.bearer.proofs.Joint.Flight.{Mark, Onward, told-same, earned-onward, flight-cut, flight-told, flight-onward}
@@ -52,12 +51,13 @@ pub joint-onward : {L first : ℕ} {w : World} {k : Keeper} {t : Fates} {new : L
     → ((x : ℕ) → In x new → isOpen (w .fates) x ≡ true) → (s : Second L first k t (w .sent) (w .confirmed)) → secondMark s ≡ secondMark (j .second)
     → Joint L first (w with-keeper k with-fates t)
 unfolding first-onward
-joint-onward {L} {first} {w} {new = new} j o was-open s mark =
+joint-onward {L} {first} {w} {k = k} {new = new} j o was-open s mark =
     let most : j .second .told ≤ length (w .fates .lost) = j .second .follows .runs .told-most in
     let ahead : (x : ℕ) → In x new → j .second .cut ≤ x = λ x p. open-ahead (j .second) x (was-open x p) in
     let cuts = flight-cut (j .flight) in
     let tolds = flight-told (j .flight) in
     let told : s .told ≡ j .second .told = ap (λ (m : Mark). m .told) mark in
+    let closed : k .closed ≡ w .keeper .closed = ap (λ (x : Keeper). x .closed) (s .keeper-is) ∙ ap (λ (m : Mark). m .closed) mark ∙ ap (λ (x : Keeper). x .closed) (sym (j .second .keeper-is)) in
     record {
       second = s;
       there = first-onward o (j .there) (omega arith) (λ x p. let k = ahead x p in omega arith);
@@ -67,4 +67,5 @@ joint-onward {L} {first} {w} {new = new} j o was-open s mark =
         count-there = j .frames .count-there;
         delivered-most = j .frames .delivered-most;
       };
+      closes = record { secondary = closed ∙ j .closes .secondary; master = j .closes .master };
     }

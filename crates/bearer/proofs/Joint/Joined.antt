@@ -16,8 +16,8 @@ use Rattle.bearer.specs.Ledger.{Ledger}
 use Rattle.bearer.specs.Rule.{Fates, isIn}
 use Rattle.bearer.specs.Packets.{numberOf, In, inRanges, Each}
 use Rattle.bearer.specs.World.{World, Built, inFlight}
-use Rattle.bearer.specs.Demand3.{inFrames, confirmedThen, reportedLost, FreedExactly, AllReported}
-use Rattle.bearer.specs.KeeperMeaning.{Held, indexes}
+use Rattle.bearer.specs.Demand3.{inFrames, confirmedThen, reportedLost, FreedExactly, AllReported, FinalCloses}
+use Rattle.bearer.specs.Account.{Held, indexes}
 use Rattle.bearer.proofs.Lists.Elements.{in-take, not-in}
 use Rattle.bearer.proofs.Secondary.Index.{Indexed, image}
 use Rattle.bearer.proofs.Secondary.ImageStatus.{image-listed}
@@ -108,6 +108,7 @@ pub record Joint (L first : ℕ) (w : World) : Type 0 where
   pub there : First L first (w .ledger) (w .fates) (w .sent) (w .freed) (confirmedThen w)
   pub flight : Flight L first (w .sent) (w .fates) (inFlight w) (masterMark there) (secondMark second)
   pub frames : Frames L first (second .told) (there .told) (w .fates .lost) (w .built) (w .delivered)
+  pub closes : FinalCloses (w .keeper .closed) (w .ledger .closed) (w .built) (w .delivered)
 
 -- ---- demand 3 of a joined world
 

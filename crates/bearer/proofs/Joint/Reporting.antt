@@ -12,27 +12,28 @@ use Rattle.basics.specs.Basics.{all}
 use Rattle.basics.proofs.Lists.{map-drop}
 use Rattle.circle.specs.Lengths.{isLength, pdcps}
 use Rattle.frame_layout.specs.Frames.{Status, Reading, readFrame, statusOctets, mostRanges}
-use Rattle.frame_layout.proofs.Frame.{status-frame, WritableStatus}
+use Rattle.frame_layout.specs.Trips.{status-frame, WritableStatus}
 use Rattle.frame_layout.proofs.Trips.{is-read}
 use Rattle.bearer.specs.Losses.{Gap}
 use Rattle.bearer.specs.Keeper as K
 use Rattle.bearer.specs.Packets.{numberOf, inRanges}
-use Rattle.bearer.specs.World.{World, Built, _with-keeper_, _with-built_, inFlight, afterStatus}
+use Rattle.bearer.specs.World.{World, Built, _with-keeper_, _with-built_, inFlight, finalRead, hadFinal, afterStatus}
 use Rattle.bearer.specs.Demand3.{inFrames, rangesRead}
-use Rattle.bearer.specs.KeeperMeaning.{Held, runAt, indexes, packetsOf}
+use Rattle.bearer.specs.Account.{Held, runAt, indexes, packetsOf}
 use Rattle.bearer.proofs.Lists.Mapped.{each-so, each-drop, each-take}
 use Rattle.bearer.proofs.Lists.Elements.{in-split, in-each}
 use Rattle.bearer.proofs.Lists.Lengths.{roomy}
 use Rattle.bearer.proofs.Answers.Reported.{Reports, refuses, builds, reports}
 use Rattle.bearer.proofs.Secondary.Index.{Indexed, image, noHeld, letGoI, highestI, reportedI}
 use Rattle.bearer.proofs.Secondary.Image.{InReach}
-use Rattle.bearer.proofs.Secondary.ImageStatus.{runs-fit, image-status, image-carried}
+use Rattle.bearer.proofs.Lists.RunNumbers.{runs-fit}
+use Rattle.bearer.proofs.Secondary.ImageStatus.{image-status, image-carried}
 use Rattle.bearer.proofs.Secondary.FollowsStatus.{toldAfter, told-then, follows-status}
 use Rattle.bearer.proofs.Secondary.FollowsMeans.{follows-reach}
 use Rattle.bearer.proofs.Master.Pdcps.{pdcpOf}
 use Rattle.bearer.proofs.Joint.Flight.{Lifted, same, up, Divides, Says, flight-more}
 use Rattle.bearer.proofs.Joint.Joined.{Second, Joint, secondMark}
-use Rattle.bearer.proofs.Joint.Delivery.{frames-append}
+use Rattle.bearer.proofs.Joint.Delivery.{frames-append, final-last}
 use Rattle.bearer.proofs.Joint.Cut.{cutAfter, told-now, carried, the-last, cut-onward, cut-below-base, gone-before, kept-behind, above-after, below-after, deserving-after}
 
 module _ {L first : ℕ} (ok : isLength L ≡ true) {w : World} (j : Joint L first w) (d m : ℕ) (final : Bool) (sizes : (d < 2 ^ 32) × (m < 2 ^ 32)) where
@@ -166,6 +167,10 @@ module _ {L first : ℕ} (ok : isLength L ≡ true) {w : World} (j : Joint L fir
               ∙ ap (map (numberOf L first)) (sym (told-now (j .second)));
           count-there = ap (λ (l : List Built). length (inFrames L l)) there ∙ j .frames .count-there;
           delivered-most = let e = length-append (w .built) (frame ∷ []) in omega (arith, e, most);
+        };
+        closes = record {
+          secondary = sym (final-last (w .built) frame (sym (j .closes .secondary) ∙ c) ∙ ap finalRead (is-read (status-frame said) writable));
+          master = j .closes .master ∙ ap hadFinal (sym there);
         };
       }
 

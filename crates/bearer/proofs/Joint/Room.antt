@@ -16,27 +16,19 @@ use Rattle.bearer.specs.Keeper.{limitOf}
 use Rattle.bearer.specs.Rule.{isIn, isOpen}
 use Rattle.bearer.specs.Packets.{In, Each}
 use Rattle.bearer.specs.World.{World}
-use Rattle.bearer.specs.KeeperMeaning.{Held, indexes, packetsFrom, packetsOf, Maximal}
+use Rattle.bearer.specs.Account.{Held, indexes, packetsOf, Maximal}
 use Rattle.bearer.proofs.Lists.Mapped.{each-so}
-use Rattle.bearer.proofs.Lists.Elements.{in-head, in-cons, in-right, in-each, each-in, rising-first, in-inserted, rising-inserted, in-none}
+use Rattle.bearer.proofs.Lists.Elements.{in-head, in-each, each-in, rising-first, in-inserted, rising-inserted}
 use Rattle.bearer.proofs.Lists.Rows.{run-in}
 use Rattle.bearer.proofs.Secondary.Index.{Indexed, froms, firstBack, floorI, placeI, runsAfterI}
 use Rattle.bearer.proofs.Secondary.Open.{open-is}
-use Rattle.bearer.proofs.Secondary.Runs.{maximal-first, maximal-tail, maximal-rising, each-with-runs, maximal-with-runs}
+use Rattle.bearer.proofs.Secondary.Runs.{starts-in, maximal-first, maximal-rising, each-with-runs, maximal-with-runs}
 use Rattle.bearer.proofs.Secondary.Follows.{record-received, recorded, not-lost}
 use Rattle.bearer.proofs.Secondary.GivenUp.{lostGaps, lost-gaps-from, lost-gaps-below, lost-gaps-maximal}
 use Rattle.bearer.proofs.Master.Marks.{waitingOf}
 use Rattle.bearer.proofs.Joint.Joined.{Joint}
 use Rattle.bearer.proofs.Joint.Delivery.{base-sent}
 use Rattle.bearer.proofs.Joint.Waiting.{runs-count, waits-unlost, waits-untold, at-most, sent-most, sent-near}
-
--- the first packets of runs are packets of theirs
-first-in : (gs : List Gap) → Maximal gs → (f : ℕ) → In f (froms gs) → In f (packetsOf gs)
-first-in [] m f p = absurd (in-none p)
-first-in (g ∷ gs) m f p =
-    ⊎-elim (λ q. rw q (run-in g gs (g .from) (omega arith) (maximal-first g gs m)))
-    (λ q. in-right f (packetsFrom (g .from) (g .to - g .from)) (packetsOf gs) (first-in gs (maximal-tail g gs m) f q))
-    (in-cons f (g .from) (froms gs) p)
 
 -- ---- 14 isn't given
 
@@ -70,7 +62,7 @@ module _ {L first : ℕ} (ok : isLength L ≡ true) {w : World} (j : Joint L fir
     where
       -- a listed run's first packet is still to be told
       untold : (f : ℕ) → In f (froms (a .runs)) → In f (drop (j .second .told) (w .fates .lost))
-      untold f p = rw (← j .second .follows .runs .hold) (first-in (a .runs) (j .second .follows .runs .maximal) f p)
+      untold f p = rw (← j .second .follows .runs .hold) (starts-in (a .runs) (j .second .follows .runs .maximal) f p)
 
       by : (gs : List Gap) → Maximal gs → ((f : ℕ) → In f (froms gs) → In f (froms (a .runs)) ⊎ (a .base ≤ f)) → Each (λ (g : Gap). g .to ≤ length (w .sent)) gs → length gs ≤ mostRuns
       by [] m s e = omega arith

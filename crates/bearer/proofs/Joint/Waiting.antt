@@ -19,7 +19,7 @@ use Rattle.bearer.specs.Ledger.{Entry, waits}
 use Rattle.bearer.specs.Rule.{isIn}
 use Rattle.bearer.specs.Packets.{In, Rising, Each, packets}
 use Rattle.bearer.specs.World.{World}
-use Rattle.bearer.specs.KeeperMeaning.{packetsFrom, Maximal}
+use Rattle.bearer.specs.Account.{packetsFrom, Maximal}
 use Rattle.bearer.specs.LedgerMeaning.{waitingIn}
 use Rattle.bearer.proofs.Lists.Elements.{in-head, in-tail, in-cons, in-take, rising-head, rising-tail, in-none, not-in, front-below}
 use Rattle.bearer.proofs.Lists.Rows.{in-packets, rising-packets, length-packets}

@@ -90,6 +90,22 @@ module _ {A : Type 0} (f : A → ℕ) (P : ℕ → Type 0) where
   in-each [] p = tt
   in-each (x ∷ xs) p = (p (f x) (in-head (f x) (map f xs)), in-each xs (λ i h. p i (in-tail i (f x) (map f xs) h)))
 
+-- a property of every element is one of whatever is in the list
+module _ (P : ℕ → Type 0) where
+  pub each-there : (xs : List ℕ) → Each P xs → (i : ℕ) → In i xs → P i
+  each-there xs p i h = each-in (λ (j : ℕ). j) P xs p i (rw (map-id xs) h)
+
+  pub there-each : (xs : List ℕ) → ((i : ℕ) → In i xs → P i) → Each P xs
+  there-each xs p = in-each (λ (j : ℕ). j) P xs (λ i h. p i (rw (map-id xs) at h))
+
+-- what is in a list is in its image
+pub in-map : (f : ℕ → ℕ) (i : ℕ) (xs : List ℕ) → In i xs → In (f i) (map f xs)
+in-map f i xs h = each-there (λ (j : ℕ). In (f j) (map f xs)) xs (in-each f (λ (n : ℕ). In n (map f xs)) xs (λ n k. k)) i h
+
+-- what no element is mapped to isn't in the image
+pub not-in-map : (f : ℕ → ℕ) (n : ℕ) (xs : List ℕ) → ((i : ℕ) → In i xs → f i ≡ n → ⊥) → In n (map f xs) → ⊥
+not-in-map f n xs none h = each-in f (λ (m : ℕ). m ≡ n → ⊥) xs (there-each (λ (i : ℕ). f i ≡ n → ⊥) xs none) n h refl
+
 -- ---- strictly rising lists
 
 pub rising-head : (x : ℕ) (xs : List ℕ) → Rising (x ∷ xs) → (i : ℕ) → In i xs → x < i
@@ -181,8 +197,7 @@ front-zero c (x ∷ xs) h = rw (from-all c (x ∷ xs) h)
 
 pub from-front : (c : ℕ) (xs : List ℕ) (i : ℕ) → In i (drop (front c xs) xs) → c ≤ i
 from-front c xs i h =
-    leb-true c i
-    (each-in (λ (j : ℕ). j) (λ (j : ℕ). leb c j ≡ true) (drop (front c xs) xs) (each-behind (λ (j : ℕ). leb c j) xs) i (rw (map-id (drop (front c xs) xs)) h))
+    leb-true c i (each-there (λ (j : ℕ). leb c j ≡ true) (drop (front c xs) xs) (each-behind (λ (j : ℕ). leb c j) xs) i h)
 
 pub below-front : (c : ℕ) (xs : List ℕ) → Rising xs → (i : ℕ) → In i (take (front c xs) xs) → i < c
 below-front c [] r i h = absurd (contrary h refl)

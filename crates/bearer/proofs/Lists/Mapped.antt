@@ -51,7 +51,7 @@ module _ {A : Type 0} (P : A → Type 0) where
   each-map f (x ∷ xs) ps = (ps .0, each-map f xs (ps .1))
 
 module _ {A : Type 0} (p : A → Bool) where
-  each-of-all : (xs : List A) → all p xs ≡ true → Each (λ (x : A). p x ≡ true) xs
+  pub each-of-all : (xs : List A) → all p xs ≡ true → Each (λ (x : A). p x ≡ true) xs
   each-of-all [] e = tt
   each-of-all (x ∷ xs) e = let both = and-true (p x) (all p xs) e in (both .0, each-of-all xs (both .1))
 

@@ -46,6 +46,10 @@ module _ (M first : ℕ) (pos : 0 < M) where
   pub onward-is : (i d : ℕ) → (on M first i + d) % M ≡ on M first (i + d)
   onward-is i d = mod-add-mod (first + i) M d ∙ ap (λ (x : ℕ). x % M) (add-assoc first i d)
 
+  -- the packet that lies as far past another as a number lies forward from that one's bears the number
+  pub lands : (i n : ℕ) → n < M → on M first (i + forward M (on M first i) n) ≡ n
+  lands i n small = sym (onward-is i (forward M (on M first i) n)) ∙ C.forward-lands M pos (on M first i) n small
+
   -- forward to a later packet less than a turn away
   pub to-later : (i j : ℕ) → i ≤ j → j - i < M → forward M (on M first i) (on M first j) ≡ j - i
   to-later i j h near =

@@ -12,7 +12,7 @@ use lib.ListN.{length}
 use Rattle.basics.proofs.Choices.{tested, contrary}
 use Rattle.bearer.specs.Losses.{Gap}
 use Rattle.bearer.specs.Packets.{In, Rising}
-use Rattle.bearer.specs.KeeperMeaning.{packetsFrom, packetsOf, Maximal}
+use Rattle.bearer.specs.Account.{packetsFrom, packetsOf, Maximal}
 use Rattle.bearer.proofs.Lists.Elements.{in-head, in-tail, in-cons, in-left, in-append, rising-cons, in-none}
 
 -- ---- packets in a row

@@ -12,16 +12,16 @@ use borrow.Author.Tests.{eq-eqb, ne-eqb, lt-leb}
 use lib.Dec.{eqb, leb}
 use lib.ListN.{length}
 use Rattle.basics.specs.Basics.{if_then_else_, alike, isDone}
-use Rattle.basics.proofs.Choices.{contrary, and-true}
+use Rattle.basics.proofs.Choices.{contrary, and-true, otherwise}
 use Rattle.circle.specs.Lengths.{isLength, isLong, pdcps}
 use Rattle.frame_layout.specs.Frames.{Status, status-of, readFrame}
-use Rattle.bearer.specs.Bearer.{After, refusing}
+use Rattle.bearer.specs.Bearer.{After}
 use Rattle.bearer.specs.Losses.{Gap}
-use Rattle.bearer.specs.Ledger.{Entry, Ledger, Passed, Accepted, waits, asLost, markLost, accept, acceptReading, acceptMarked}
+use Rattle.bearer.specs.Ledger.{Entry, Ledger, Passed, Accepted, waits, asLost, marking, accept, acceptReading, acceptMarked}
 use Rattle.bearer.specs.Rule.{isIn}
 use Rattle.bearer.specs.Packets.{packets, In, Each}
 use Rattle.bearer.specs.World.{without}
-use Rattle.bearer.specs.KeeperMeaning.{runAt, packetsOf}
+use Rattle.bearer.specs.Account.{runAt, packetsOf}
 use Rattle.bearer.specs.LedgerMeaning.{TurnedLost, turned-end, turns, as-it-was}
 use Rattle.bearer.proofs.Lists.Lengths.{roomy}
 use Rattle.bearer.proofs.Master.Marks.{isNamed, Names, marked, waitingOf, waiting-held, mark-finds}
@@ -35,12 +35,12 @@ alike-self true = refl
 alike-self false = refl
 
 -- the numbers of the waiting entries of these packets
-abbrev numbersNamed : List ℕ → List (Entry ℕ) → List ℕ
+abbrev pub numbersNamed : List ℕ → List (Entry ℕ) → List ℕ
 numbersNamed xs [] = []
 numbersNamed xs (e ∷ es) = if isNamed xs e then e .number ∷ numbersNamed xs es else numbersNamed xs es
 
 -- these entries turn lost
-marked-turned : (xs : List ℕ) (es : List (Entry ℕ)) → TurnedLost (numbersNamed xs es) es (marked xs es)
+pub marked-turned : (xs : List ℕ) (es : List (Entry ℕ)) → TurnedLost (numbersNamed xs es) es (marked xs es)
 marked-turned xs [] = turned-end
 marked-turned xs (e ∷ es) = go (isNamed xs e) refl (marked-turned xs es)
   where
@@ -131,12 +131,9 @@ module _ {L first cut : ℕ} {sent : List ℕ} {l : Ledger ℕ} (ok : isLength L
   takes cut′ o open-end read form fits ranges h =
       let same : alike (s .long) (isLong (l .bits)) ≡ true = rw (form, m .bits-are) (alike-self (isLong L)) in
       let below : leb (pdcps (l .bits)) (s .highest) ≡ false = rw (m .bits-are) (lt-leb (pdcps L) (s .highest) fits) in
-      let finds : markLost (l .bits) (l .entries) (s .ranges) ≡ some passed = rw (m .bits-are, ranges) (mark-finds L first cut (l .entries) gs (in-step ok m) n) in
+      let finds : marking l s ≡ some passed = rw (m .bits-are, ranges) (mark-finds L first cut (l .entries) gs (in-step ok m) n) in
       let is : accept l o ≡ acceptMarked l s (some passed) =
-      ap (λ (b : Bool). if_then_else_ {A = After (Ledger ℕ) Accepted} b (refusing 9 l) (acceptReading l (readFrame o))) open-end
-      ∙ ap (acceptReading l) read
-      ∙ ap (λ (b : Bool). if_then_else_ {A = After (Ledger ℕ) Accepted} (not b) (refusing 31 l) (if leb (pdcps (l .bits)) (s .highest) then refusing 32 l else acceptMarked l s (markLost (l .bits) (l .entries) (s .ranges)))) same
-      ∙ ap (λ (b : Bool). if_then_else_ {A = After (Ledger ℕ) Accepted} b (refusing 32 l) (acceptMarked l s (markLost (l .bits) (l .entries) (s .ranges)))) below
+      otherwise _ _ open-end ∙ ap (acceptReading l) read ∙ otherwise _ _ (ap not same) ∙ otherwise _ _ below
       ∙ ap (acceptMarked l s) finds
       in
       rw is (by cut′ h)

@@ -35,24 +35,25 @@ pub record Passes (l : Ledger ℕ) (o : List ℕ) (a : Accepted) : Type 0 where
   pub named : eqb (frame .highest) (l .highest) or waitsFor (frame .highest) (pass .entries) ≡ true
   pub freed-is : a .freed ≡ freed l (frame .highest) (pass .entries) .count
   pub lost-is : a .lost ≡ pass .count
+  pub final-is : a .final ≡ frame .final
   pub state-is : accept l o .state ≡ acceptedState l frame (freed l (frame .highest) (pass .entries) .entries)
 
 pub passes : (l : Ledger ℕ) (o : List ℕ) (a : Accepted) → accept l o .answer ≡ done a → Passes l o a
-passes l o a e = let shut = not-refused (l .closed) 9 l _ a e in by (readFrame o) refl (shut .1) (otherwise _ _ (shut .0))
+passes l o a e = let shut = not-refused (l .closed) _ l _ a e in by (readFrame o) refl (shut .1) (otherwise _ _ (shut .0))
   where
     by : (r : Reading) → readFrame o ≡ r → acceptReading l r .answer ≡ done a → accept l o ≡ acceptReading l r → Passes l o a
     by (data-of long n) q e s = absurd (let z : _≡_ {A = ℕ} 0 1 = cc in omega arith)
     by (refuse n) q e s = absurd (let z : _≡_ {A = ℕ} 0 1 = cc in omega arith)
     by (status-of f) q e s =
-        let form = not-refused (not (alike (f .long) (isLong (l .bits)))) 31 l _ a e in
-        let fits = not-refused (leb (pdcps (l .bits)) (f .highest)) 32 l _ a (form .1) in
+        let form = not-refused (not (alike (f .long) (isLong (l .bits)))) _ l _ a e in
+        let fits = not-refused (leb (pdcps (l .bits)) (f .highest)) _ l _ a (form .1) in
         marked f q (markLost (l .bits) (l .entries) (f .ranges)) refl (fits .1) (s ∙ otherwise _ _ (form .0) ∙ otherwise _ _ (fits .0))
       where
         marked : (f : Status) → readFrame o ≡ status-of f → (x : Option (Passed ℕ)) → markLost (l .bits) (l .entries) (f .ranges) ≡ x → acceptMarked l f x .answer ≡ done a
             → accept l o ≡ acceptMarked l f x → Passes l o a
         marked f q none w e s = absurd (let z : _≡_ {A = ℕ} 0 1 = cc in omega arith)
         marked f q (some m) w e s =
-            let t = not-refused (not (eqb (f .highest) (l .highest) or waitsFor (f .highest) (m .entries))) 34 l _ a e in
+            let t = not-refused (not (eqb (f .highest) (l .highest) or waitsFor (f .highest) (m .entries))) _ l _ a e in
             record {
               frame = f;
               read = q;
@@ -61,6 +62,7 @@ passes l o a e = let shut = not-refused (l .closed) 9 l _ a e in by (readFrame o
               named = sym (Bool·not-not _) ∙ ap not (t .0);
               freed-is = ap (λ (x : Accepted). x .freed) (sym (done-one _ a (t .1)));
               lost-is = ap (λ (x : Accepted). x .lost) (sym (done-one _ a (t .1)));
+              final-is = ap (λ (x : Accepted). x .final) (sym (done-one _ a (t .1)));
               state-is = same-state (s ∙ otherwise _ _ (t .0));
             }
 
@@ -81,12 +83,12 @@ pub freed-count : (l : Ledger ℕ) (h : ℕ) (es : List (Entry ℕ)) → freed l
 freed-count l h es = ⊎-elim (λ t. rw t (omega arith)) (λ t. rw t (through-count h es)) (tested (eqb h (l .highest)))
 
 -- the packet that waits for a PDCP number
-record Waiter (sent : List ℕ) (h : ℕ) (es : List (Entry ℕ)) : Type 0 where
+pub record Waiter (sent : List ℕ) (h : ℕ) (es : List (Entry ℕ)) : Type 0 where
   pub packet : ℕ
   pub waiting : In packet (waitingOf es)
   pub pdcp-is : h ≡ pdcpOf sent packet
 
-waiter : (sent : List ℕ) (h : ℕ) (es : List (Entry ℕ)) → Each (λ (e : Entry ℕ). e .pdcp ≡ pdcpOf sent (e .label)) es → waitsFor h es ≡ true → Waiter sent h es
+pub waiter : (sent : List ℕ) (h : ℕ) (es : List (Entry ℕ)) → Each (λ (e : Entry ℕ). e .pdcp ≡ pdcpOf sent (e .label)) es → waitsFor h es ≡ true → Waiter sent h es
 waiter sent h [] a t = absurd (contrary t refl)
 waiter sent h (e ∷ es) a t =
     ⊎-elim

@@ -4,24 +4,28 @@
 use mathlib.Core.Path.{_≡_, refl, sym, _∙_, ap}
 use mathlib.Core.Bool.{Bool, true, false}
 use mathlib.Core.List.{List, [], _∷_}
+use mathlib.Core.Option.{some}
 use mathlib.Core.Logic.{⊎-elim}
-use Prim.Native.Nat.{ℕ, suc, _≤_, _<_}
+use Prim.Native.Nat.{ℕ, suc, _+_, _≤_, _<_}
 use native.Mathlib.Omega.{arith}
+use native.Mathlib.Nat.{mod-lt}
 use lib.Dec.{leb}
 use lib.ListN.{length}
 use Rattle.basics.specs.Basics.{if_then_else_, _and_}
 use Rattle.basics.proofs.Choices.{contrary}
 use Rattle.circle.specs.Lengths.{isLength, modulusOf}
-use Rattle.frame_layout.specs.Frames.{Status}
-use Rattle.bearer.specs.Ledger.{Entry, Ledger, freshLedger, waits, asLost, acceptedState}
+use Rattle.frame_layout.specs.Frames.{Range, Status}
+use Rattle.bearer.specs.Ledger.{Entry, Ledger, Passed, freshLedger, waits, asLost, markLost, acceptedState}
 use Rattle.bearer.specs.Packets.{packets, Rising, In, Each}
 use Rattle.bearer.specs.LedgerMeaning.{TurnedLost, turned-end, turns, as-it-was, waitingIn}
 use Rattle.bearer.proofs.Lists.Elements.{in-head, rising-head, rising-tail, rising-cons, in-none}
-use Rattle.bearer.proofs.Lists.Numbers.{first-number}
+use Rattle.bearer.proofs.Lists.Mapped.{each-so}
+use Rattle.bearer.proofs.Lists.Numbers.{first-number, positive}
 use Rattle.bearer.proofs.Lists.Lengths.{roomy}
 use Rattle.bearer.proofs.Master.Marks.{waitingOf, waiting-cases, waiting-held}
 use Rattle.bearer.proofs.Master.Pdcps.{pdcpOf, one-pdcp, moves}
 use Rattle.bearer.proofs.Master.Frees.{leftOver, Bears, each-left, left-rising, left-waits, waiting-rest}
+use Rattle.bearer.proofs.Master.Turned.{Turns, turns-lost}
 use Rattle.bearer.proofs.Master.Sound.{Entries, entries-fewer, entries-rest, Master}
 
 -- a fresh ledger is sound
@@ -88,6 +92,15 @@ pub length-turned : {ns : List ℕ} {es ds : List (Entry ℕ)} → TurnedLost ns
 length-turned turned-end = refl
 length-turned (turns e w t) = ap suc (length-turned t)
 length-turned (as-it-was e t) = ap suc (length-turned t)
+
+-- the pass over any ranges does so to a sound ledger's entries
+pub master-turns : {L first cut : ℕ} {sent : List ℕ} {l : Ledger ℕ} → Master L first cut sent l → (rs : List Range) (p : Passed ℕ)
+    → markLost (l .bits) (l .entries) rs ≡ some p → Turns L rs (l .entries) p
+master-turns {L} {first} {cut} {sent} {l} m rs p found =
+    turns-lost L (l .entries) rs p fits (rw (m .bits-are) at found)
+  where
+    fits : Each (λ (e : Entry ℕ). e .number < modulusOf L) (l .entries)
+    fits = each-so (l .entries) (λ e k. rw (k .numbered) (mod-lt (first + e .label) (positive L))) (m .entries-are .sent-as)
 
 -- lost entries are as good as waiting ones
 pub entries-turned : {L first cut : ℕ} {sent ns : List ℕ} {es ds : List (Entry ℕ)} → TurnedLost ns es ds → Entries L first cut sent es → Entries L first cut sent ds

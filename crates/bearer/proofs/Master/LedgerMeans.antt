@@ -7,89 +7,120 @@ use mathlib.Core.List.{List, [], _∷_, _++_, map}
 use mathlib.Core.Logic.{_⊎_, inl, inr, ⊎-elim}
 use Prim.Native.Nat.{ℕ, suc, _+_, _-_, _/_, _≤_, _<_}
 use native.Mathlib.Omega.{arith}
-use native.Mathlib.Nat.{mod-lt}
 use borrow.Author.Tests.{not-false}
 use lib.Dec.{leb, ltb}
 use lib.ListN.{length, take, drop, length-append, take-append-drop}
-use Rattle.basics.specs.Basics.{if_then_else_, _or_, done, refused, isDone}
-use Rattle.basics.proofs.Choices.{tested, contrary, done-one, or-false}
+use Rattle.basics.specs.Basics.{if_then_else_, _or_, done, isDone}
+use Rattle.basics.proofs.Choices.{tested, contrary, done-one, never-done, or-false}
 use Rattle.circle.specs.Circle.{forward}
-use Rattle.circle.specs.Lengths.{isLength, modulusOf, pdcps}
+use Rattle.circle.specs.Lengths.{isLength, modulusOf, pdcps, pdcpBefore}
+use Rattle.frame_layout.specs.Frames.{Status, status-of, readFrame}
 use Rattle.bearer.specs.Bearer.{mostEntries}
-use Rattle.bearer.specs.Ledger.{newEntry, Entry, Ledger, Accepted, Taken, takenOf, waits, freshLedger, openLedger, inOrder, send, sentState, markLost, freed, accept, takeFrom, takeOldest, takeAt}
-use Rattle.bearer.specs.Packets.{packets, Rising, In, Each}
-use Rattle.bearer.specs.LedgerMeaning.{LedgerReached, opened as opens, sending, accepting, taking, waitingIn, lostIn, pastHighest, StatusMeans, TakenFrom, this-one, passes-over, LedgersMean, SendsMean, TakesMean, StatusesMean}
+use Rattle.bearer.specs.Ledger.{newEntry, Entry, Ledger, _with-entries_, Accepted, Taken, takenOf, waits, freshLedger, openLedger, inOrder, send, sentState, accept, takeFrom, takeOldest, takeAt}
+use Rattle.bearer.specs.Packets.{lastOf, packets, Rising, In, Each}
+use Rattle.bearer.specs.LedgerMeaning.{Books, begun, sending, accepting, taking, lastSent, LedgerReached, opened as opens, sends, accepts, takes, waitingIn, lostIn, pastHighest, StatusMeans, TakenFrom, this-one, passes-over, LedgersMean, SendsMean, TakesMean, StatusesMean}
 use Rattle.bearer.proofs.Lists.Mapped.{each-so}
 use Rattle.bearer.proofs.Lists.Numbers.{positive, same-packet}
 use Rattle.bearer.proofs.Lists.Lengths.{roomy}
-use Rattle.bearer.proofs.Answers.Accepted.{not-refused, opened}
+use Rattle.bearer.proofs.Answers.Accepted.{same-state, not-refused, opened}
 use Rattle.bearer.proofs.Master.Pdcps.{pdcpOf, faster, few}
 use Rattle.bearer.proofs.Master.Sound.{Entries, entries-rest, Master, Sends, send-cases, master-sends}
 use Rattle.bearer.proofs.Master.Takes.{Left, take-cases, master-left}
-use Rattle.bearer.proofs.Master.Turned.{turns-lost}
-use Rattle.bearer.proofs.Master.Applied.{master-opened, waiting-rising, waiting-sent, length-turned}
-use Rattle.bearer.proofs.Master.AcceptsAny.{Passes, passes, freed-count, frees-by}
+use Rattle.bearer.proofs.Master.Turned.{Turns}
+use Rattle.bearer.proofs.Master.Applied.{master-opened, master-turns, waiting-rising, waiting-sent, length-turned}
+use Rattle.bearer.proofs.Master.AcceptsAny.{Passes, passes, freed-count, Frees, frees-by}
 
--- a sound ledger, and the sum
-record Sound (L first : ℕ) (l : Ledger ℕ) (sent : List ℕ) (freed taken : ℕ) : Type 0 where
+-- ---- every reached ledger is sound
+
+-- the figures of a ledger that are its books'
+pub record Figures (L f : ℕ) (l : Ledger ℕ) (b : Books) : Type 0 where
+  pub highest-is : l .highest ≡ b .highest
+  pub last-is : l .sent ≡ lastSent L f b
+  pub desired-is : l .desired ≡ b .desired
+  pub minimum-is : l .minimum ≡ b .minimum
+  pub closed-is : l .closed ≡ b .final
+
+-- a sound ledger with these figures, and the sum
+pub record Sound (L first f : ℕ) (l : Ledger ℕ) (b : Books) : Type 0 where
   pub ok : isLength L ≡ true
   pub cut : ℕ
-  pub master : Master L first cut sent l
-  pub sum : length (l .entries) + freed + taken ≡ length sent
+  pub master : Master L first cut (b .sent) l
+  pub figures : Figures L f l b
+  pub sum : length (l .entries) + b .freed + b .taken ≡ length (b .sent)
 
-module _ (L first : ℕ) (l : Ledger ℕ) (sent : List ℕ) (freed₀ taken : ℕ) (x : Sound L first l sent freed₀ taken) where
-  -- an accepted status does as it says, and keeps a sound ledger
-  accept-step : (o : List ℕ) (a : Accepted) → Passes l o a → StatusMeans L sent l o a × Sound L first (accept l o .state) sent (freed₀ + a .freed) taken
-  accept-step o a p =
-      let m = x .master in
-      let fits : Each (λ (e : Entry ℕ). e .number < modulusOf L) (l .entries) = each-so (l .entries) (λ e k. rw (k .numbered) (mod-lt (first + e .label) (positive L))) (m .entries-are .sent-as) in
-      let t = turns-lost L (l .entries) (p .frame .ranges) (p .pass) fits (ap (λ (b : ℕ). markLost b (l .entries) (p .frame .ranges)) (sym (m .bits-are)) ∙ p .found) in
-      let f = frees-by (x .ok) m (p .frame) (t .turned) (p .named) in
-      let left : accept l o .state .entries ≡ freed l (p .frame .highest) (p .pass .entries) .entries = ap (λ (y : Ledger ℕ). y .entries) (p .state-is) in
-      let count : a .freed + length (accept l o .state .entries) ≡ length (l .entries) =
+module _ {L first f : ℕ} {l : Ledger ℕ} {b : Books} (x : Sound L first f l b) (o : List ℕ) (a : Accepted) (p : Passes l o a) where
+  -- an accepted status turns waiting entries lost, and then frees some
+  turned-by : Turns L (p .frame .ranges) (l .entries) (p .pass)
+  turned-by = master-turns (x .master) (p .frame .ranges) (p .pass) (p .found)
+
+  freed-so : Frees L first (b .sent) l (p .frame) (p .pass .entries)
+  freed-so = frees-by (x .ok) (x .master) (p .frame) (turned-by .turned) (p .named)
+
+  -- how many it freed is how many entries left
+  left-count : a .freed + length (accept l o .state .entries) ≡ length (l .entries)
+  left-count =
       let c = freed-count l (p .frame .highest) (p .pass .entries) in
-      let d = ap length left in
-      let n = length-turned (t .turned) in
+      let d = ap (λ (y : Ledger ℕ). length (y .entries)) (p .state-is) in
+      let n = length-turned (turned-by .turned) in
       let g = p .freed-is in
       omega (arith, c, d, n, g)
-      in (
-        record {
-          frame = p .frame;
-          read = p .read;
-          applied = p .pass .entries;
-          become-lost = t .turned;
-          lost-count = p .lost-is ∙ t .count-is;
-          are-freed = rw left (f .freed-by);
-          freed-count = count;
-          highest-is = ap (λ (x : Ledger ℕ). x .highest) (p .state-is);
-          desired-is = ap (λ (x : Ledger ℕ). x .desired) (p .state-is);
-          minimum-is = ap (λ (x : Ledger ℕ). x .minimum) (p .state-is);
-          final-closes = ap (λ (x : Ledger ℕ). x .closed) (p .state-is);
-        },
-        record {
-          ok = x .ok;
-          cut = f .cut;
-          master = rw (p .state-is) (f .master);
-          sum = let s = x .sum in omega (arith, count, s);
-        },
-      )
 
+  -- it does as it says
+  status-means : StatusMeans L (b .sent) l o a
+  status-means = record {
+    frame = p .frame;
+    read = p .read;
+    applied = p .pass .entries;
+    become-lost = turned-by .turned;
+    lost-count = p .lost-is ∙ turned-by .count-is;
+    are-freed = rw (p .state-is) (freed-so .freed-by);
+    freed-count = left-count;
+    final-is = p .final-is;
+  }
+
+  -- and leaves a sound ledger, whose figures are now the frame's
+  accept-step : (s : Status) → readFrame o ≡ status-of s → Sound L first f (accept l o .state) (accepting b s (a .freed))
+  accept-step s q = rw (same-status (sym q ∙ p .read)) (record {
+    ok = x .ok;
+    cut = freed-so .cut;
+    master = rw (p .state-is) (freed-so .master);
+    figures = rw (p .state-is) (record { highest-is = refl; last-is = x .figures .last-is; desired-is = refl; minimum-is = refl; closed-is = refl });
+    sum = let h = x .sum in omega (arith, left-count, h);
+  })
+    where
+      same-status : {s t : Status} → status-of s ≡ status-of t → s ≡ t
+      same-status e = cc
+
+-- the last of PDCP numbers is the one put behind them
+last-behind : (q : ℕ) (qs : List ℕ) (p : ℕ) → lastOf q (qs ++ (p ∷ [])) ≡ p
+last-behind q [] p = refl
+last-behind q (r ∷ qs) p = last-behind r qs p
+
+module _ {L first f : ℕ} {l : Ledger ℕ} {b : Books} (x : Sound L first f l b) where
   -- an accepted send is one packet more, and one entry
-  send-step : (p n : ℕ) → send l p (length sent) .answer ≡ done n → Sound L first (send l p (length sent) .state) (sent ++ (p ∷ [])) freed₀ taken
+  send-step : (p n : ℕ) → send l p (length (b .sent)) .answer ≡ done n → Sound L first f (send l p (length (b .sent)) .state) (sending b p)
   send-step p n e =
       ⊎-elim (λ r. absurd (contrary (ap isDone e) (r .0))) (λ r. rw (r .1) (goes-out (r .2)))
-      (send-cases L p (length sent) l (x .master .bits-are))
+      (send-cases L p (length (b .sent)) l (x .master .bits-are))
     where
-      goes-out : Sends L l p → Sound L first (sentState l p (length sent)) (sent ++ (p ∷ [])) freed₀ taken
-      goes-out s = record {
-        ok = x .ok;
-        cut = x .cut;
-        master = master-sends (x .ok) (x .master) s;
-        sum = let h = x .sum in omega (arith, h, length-append (l .entries) (newEntry (l .next) p (length sent) ∷ []), length-append sent (p ∷ []));
-      }
+      goes-out : Sends L l p → Sound L first f (sentState l p (length (b .sent))) (sending b p)
+      goes-out s =
+          let g = x .figures in record {
+            ok = x .ok;
+            cut = x .cut;
+            master = master-sends (x .ok) (x .master) s;
+            figures = record {
+              highest-is = g .highest-is;
+              last-is = sym (last-behind (pdcpBefore L f) (b .sent) p);
+              desired-is = g .desired-is;
+              minimum-is = g .minimum-is;
+              closed-is = g .closed-is;
+            };
+            sum = let h = x .sum in omega (arith, h, length-append (l .entries) (newEntry (l .next) p (length (b .sent)) ∷ []), length-append (b .sent) (p ∷ []));
+          }
 
   -- an accepted take is one entry less
-  take-step : (t : Taken) → takeOldest l .answer ≡ done t → Sound L first (takeOldest l .state) sent freed₀ (taken + 1)
+  take-step : (t : Taken) → takeOldest l .answer ≡ done t → Sound L first f (takeOldest l .state) (taking b)
   take-step t e =
       let less = shorter (take i (l .entries)) (drop i (l .entries)) e in
       let whole : length (take i (l .entries)) + length (drop i (l .entries)) ≡ length (l .entries) = sym (length-append (take i (l .entries)) (drop i (l .entries))) ∙ ap length (take-append-drop i (l .entries)) in
@@ -98,6 +129,7 @@ module _ (L first : ℕ) (l : Ledger ℕ) (sent : List ℕ) (freed₀ taken : �
         ok = x .ok;
         cut = x .cut;
         master = master-left (x .master) left;
+        figures = rw (left .are) (same-figures (left .front ++ left .back));
         sum = let h = x .sum in omega (arith, h, less, whole);
       }
     where
@@ -105,29 +137,40 @@ module _ (L first : ℕ) (l : Ledger ℕ) (sent : List ℕ) (freed₀ taken : �
       i = takeAt (l .closed) (l .entries)
 
       shorter : (front es : List (Entry ℕ)) → takeFrom l front es .answer ≡ done t → suc (length (takeFrom l front es .state .entries)) ≡ length front + length es
-      shorter front [] e = absurd (let z : _≡_ {A = ℕ} 0 1 = cc in omega arith)
+      shorter front [] e = never-done _ t e
       shorter front (d ∷ es) e = omega (arith, length-append front es)
 
+      same-figures : (es : List (Entry ℕ)) → Figures L f (l with-entries es) (taking b)
+      same-figures es =
+          let g = x .figures in
+          record { highest-is = g .highest-is; last-is = g .last-is; desired-is = g .desired-is; minimum-is = g .minimum-is; closed-is = g .closed-is }
+
 -- a ledger is sound when it is opened
-open-step : (L first f : ℕ) (l : Ledger ℕ) → openLedger L first f ≡ done l → Sound L first l [] 0 0
+open-step : (L first f : ℕ) (l : Ledger ℕ) → openLedger L first f ≡ done l → Sound L first f l (begun L f)
 open-step L first f l e =
     let o = opened L first f (freshLedger L first f) l e in
-    rw (← o .is) (record { ok = o .ok; cut = 0; master = master-opened L first f (o .ok) (o .small); sum = refl })
+    rw (← o .is) (record {
+      ok = o .ok;
+      cut = 0;
+      master = master-opened L first f (o .ok) (o .small);
+      figures = record { highest-is = refl; last-is = refl; desired-is = refl; minimum-is = refl; closed-is = refl };
+      sum = refl;
+    })
 
-sound : (L first f : ℕ) {l : Ledger ℕ} {sent : List ℕ} {freed taken : ℕ} → LedgerReached L first f l sent freed taken → Sound L first l sent freed taken
-sound L first f (opens {l = l} e) = open-step L first f l e
-sound L first f (sending {l = l} {sent = sent} {freed = freed} {taken = taken} p n x e) = send-step L first l sent freed taken (sound L first f x) p n e
-sound L first f (accepting {l = l} {sent = sent} {freed = freed} {taken = taken} o a x e) = accept-step L first l sent freed taken (sound L first f x) o a (passes l o a e) .1
-sound L first f (taking {l = l} {sent = sent} {freed = freed} {taken = taken} t x e) = take-step L first l sent freed taken (sound L first f x) t e
+pub sound : {L first f : ℕ} {l : Ledger ℕ} {b : Books} → LedgerReached L first f l b → Sound L first f l b
+sound {L} {first} {f} (opens {l = l} e) = open-step L first f l e
+sound (sends p n x e) = send-step (sound x) p n e
+sound (accepts {l = l} o s a x q e) = accept-step (sound x) o a (passes l o a e) s q
+sound (takes t x e) = take-step (sound x) t e
 
 -- every status that a reached ledger accepts does as it says
 pub statuses-mean : StatusesMean
-statuses-mean L first f l sent freed taken x o a e = accept-step L first l sent freed taken (sound L first f x) o a (passes l o a e) .0
+statuses-mean L first f l b x o a e = status-means (sound x) o a (passes l o a e)
 
 -- ---- what a sound ledger means
 
 -- every entry waits or is lost
-counts-sum : (es : List (Entry ℕ)) → length (waitingIn es) + length (lostIn es) ≡ length es
+pub counts-sum : (es : List (Entry ℕ)) → length (waitingIn es) + length (lostIn es) ≡ length es
 counts-sum [] = refl
 counts-sum (e ∷ es) = go (waits e) (counts-sum es)
   where
@@ -178,13 +221,19 @@ module _ {L first cut : ℕ} {sent : List ℕ} {l : Ledger ℕ} (ok : isLength L
 
 -- every ledger that calls reach means what document 01 says
 pub ledgers-mean : LedgersMean
-ledgers-mean L first f l sent freed taken x =
-    let s = sound L first f x in
+ledgers-mean L first f l b x =
+    let s = sound x in
     let m = s .master in
     let e = m .entries-are in
     let a = waiting-past (s .ok) m (l .entries) e in
+    let g = s .figures in
     record {
       same-length = m .bits-are;
+      highest-is = g .highest-is;
+      last-is = g .last-is;
+      desired-is = g .desired-is;
+      minimum-is = g .minimum-is;
+      closed-is = g .closed-is;
       sum = let h = s .sum in omega (arith, h, counts-sum (l .entries));
       in-order = e .rising;
       were-sent = each-so (l .entries) (λ d k. k .was-sent) (e .sent-as);
@@ -205,17 +254,19 @@ ledgers-mean L first f l sent freed taken x =
 
 -- ---- what sends and takes answer
 
--- a number given out is the ledger's next, which is the next packet's
-given-out : (l : Ledger ℕ) (p a n : ℕ) → send l p a .answer ≡ done n → n ≡ l .next
+-- a send that is accepted gives out the ledger's next number, and leaves what a send leaves
+given-out : (l : Ledger ℕ) (p a n : ℕ) → send l p a .answer ≡ done n → (n ≡ l .next) × (send l p a .state ≡ sentState l p a)
 given-out l p a n e =
-    let shut = not-refused (l .closed) 9 l _ n e in
-    let bad = not-refused (not (ltb p (pdcps (l .bits)))) 10 l _ n (shut .1) in
-    let late = not-refused (not (inOrder l p)) 35 l _ n (bad .1) in
-    let full = not-refused (leb mostEntries (length (l .entries))) 36 l _ n (late .1) in
-    sym (done-one (l .next) n (full .1))
+    let shut = not-refused (l .closed) _ l _ n e in
+    let bad = not-refused (not (ltb p (pdcps (l .bits)))) _ l _ n (shut .1) in
+    let late = not-refused (not (inOrder l p)) _ l _ n (bad .1) in
+    let full = not-refused (leb mostEntries (length (l .entries))) _ l _ n (late .1) in
+    (sym (done-one (l .next) n (full .1)), same-state (shut .2 ∙ bad .2 ∙ late .2 ∙ full .2))
 
 pub sends-mean : SendsMean
-sends-mean L first f l sent freed taken x p n e = given-out l p (length sent) n e ∙ sound L first f x .master .next-is
+sends-mean L first f l b x p n e =
+    let g = given-out l p (length (b .sent)) n e in
+    (g .0 ∙ sound x .master .next-is, rw (g .1, g .0))
 
 -- the entries from the place of a take on: the first of them goes, and those in front of it are passed over
 taken-from : (c : Bool) (t : Taken) (es : List (Entry ℕ)) (e : Entry ℕ) (b : List (Entry ℕ)) → drop (takeAt c es) es ≡ e ∷ b → t ≡ takenOf e
@@ -236,9 +287,7 @@ pub takes-mean : TakesMean
 takes-mean l t e = go (drop (takeAt (l .closed) (l .entries)) (l .entries)) refl
   where
     go : (rest : List (Entry ℕ)) → drop (takeAt (l .closed) (l .entries)) (l .entries) ≡ rest → TakenFrom (l .closed) t (l .entries) (takeOldest l .state .entries)
-    go [] q =
-        let none : takeOldest l .answer ≡ refused 38 = ap (λ (r : List (Entry ℕ)). takeFrom l (take (takeAt (l .closed) (l .entries)) (l .entries)) r .answer) q in
-        absurd (let z : _≡_ {A = ℕ} 0 1 = cc in omega arith)
+    go [] q = never-done _ t (sym (ap (λ (r : List (Entry ℕ)). takeFrom l (take (takeAt (l .closed) (l .entries)) (l .entries)) r .answer) q) ∙ e)
     go (x ∷ b) q =
         let says : takeOldest l .answer ≡ done (takenOf x) = ap (λ (r : List (Entry ℕ)). takeFrom l (take (takeAt (l .closed) (l .entries)) (l .entries)) r .answer) q in
         let state : takeOldest l .state .entries ≡ take (takeAt (l .closed) (l .entries)) (l .entries) ++ b = ap (λ (r : List (Entry ℕ)). takeFrom l (take (takeAt (l .closed) (l .entries)) (l .entries)) r .state .entries) q in

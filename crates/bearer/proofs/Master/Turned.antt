@@ -42,7 +42,7 @@ turns-number e n b t = rw (← b .1) (turns e (b .0) t)
 
 module _ (L : ℕ) where
   -- the numbers of ranges are the first one's start, and those of what is left
-  first-number : (r : Range) (rs : List Range) → r .start < modulusOf L → r .end < modulusOf L → inRanges L (r ∷ rs) ≡ r .start ∷ inRanges L (afterNumber L r rs)
+  pub first-number : (r : Range) (rs : List Range) → r .start < modulusOf L → r .end < modulusOf L → inRanges L (r ∷ rs) ≡ r .start ∷ inRanges L (afterNumber L r rs)
   first-number r rs hs he = go (tested (eqb (r .start) (r .end)))
     where
       go : (eqb (r .start) (r .end) ≡ true) ⊎ (eqb (r .start) (r .end) ≡ false) → inRanges L (r ∷ rs) ≡ r .start ∷ inRanges L (afterNumber L r rs)

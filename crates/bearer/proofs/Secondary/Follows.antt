@@ -11,9 +11,9 @@ use lib.ListN.{length, drop}
 use Rattle.basics.proofs.Choices.{refuted, contrary, same-test}
 use Rattle.bearer.specs.Bearer.{window, mostRuns, mostRecords}
 use Rattle.bearer.specs.Losses.{Gap}
-use Rattle.bearer.specs.Rule.{Fates, allOpen, isIn}
+use Rattle.bearer.specs.Rule.{Fates, allOpen, isIn, Lowest}
 use Rattle.bearer.specs.Packets.{In, Rising, Each}
-use Rattle.bearer.specs.KeeperMeaning.{Held, packetsOf, Maximal, indexes, Lowest}
+use Rattle.bearer.specs.Account.{Held, packetsOf, Maximal, indexes}
 use Rattle.bearer.proofs.Lists.Elements.{in-head, in-tail, in-cons, in-left, in-right, in-append, each-in, endsIn, ends-in}
 use Rattle.bearer.proofs.Secondary.Index.{Indexed, freshIndexed, froms, placeI, hasI}
 
@@ -65,7 +65,7 @@ pub record FollowsRecords (h base : ℕ) (got : List ℕ) (hs : List Held) : Typ
   pub rising : Rising (indexes hs)
   pub received : Each (λ (x : Held). In (x .index) got) hs
   pub from-base : (i : ℕ) → base ≤ i → In i got → In i (indexes hs)
-  -- "only records before base are confirmed"
+  -- only records before base are confirmed
   pub confirmed-before : Each (λ (x : Held). x .confirmed ≡ true → x .index < base) hs
   -- no packet with a record is 256 or more past base
   pub within-window : Each (λ (x : Held). x .index < base + window) hs

@@ -18,7 +18,7 @@ use Rattle.bearer.specs.Losses.{sizeOf, lowest}
 use Rattle.bearer.specs.Keeper.{limitOf}
 use Rattle.bearer.specs.Rule.{Fates, isIn, isOpen, declare, receive, arrival}
 use Rattle.bearer.specs.Packets.{In, Rising}
-use Rattle.bearer.specs.KeeperMeaning.{Held, packetsOf, indexes}
+use Rattle.bearer.specs.Account.{Held, packetsOf, runsIn, indexes}
 use Rattle.bearer.proofs.Lists.Mapped.{each-so}
 use Rattle.bearer.proofs.Lists.Elements.{in-head, in-tail, in-cons, in-left, in-right, in-one, in-last, in-drop, rising-head, rising-append, rising-drop, from-front, behind-front, each-inserted, in-inserted, inserted-in, rising-inserted}
 use Rattle.bearer.proofs.Answers.Accepted.{not-refused}
@@ -27,7 +27,7 @@ use Rattle.bearer.proofs.Secondary.Open.{open-is, open-unreceived}
 use Rattle.bearer.proofs.Secondary.Gaps.{lowest-shift}
 use Rattle.bearer.proofs.Secondary.Runs.{maximal-rising}
 use Rattle.bearer.proofs.Secondary.Follows.{marks, mark-record, in-marks, Follows, follows-has, record-received, record-near, recorded, not-lost, floor-marks}
-use Rattle.bearer.proofs.Secondary.GivenUp.{lost-count, above, Receives, Advances, Records, advances, above-rising, in-above, above-in, base-after-lowest, declared, follows-step}
+use Rattle.bearer.proofs.Secondary.GivenUp.{lost-count, above, Receives, Advances, Records, advances, above-rising, in-above, above-in, base-after-lowest, declared, step-listed, follows-step}
 
 -- base is no further past an element than past the first
 first-back : (b : ℕ) (xs : List ℕ) → Rising xs → (f : ℕ) → In f xs → b ≤ f + firstBack b xs
@@ -155,6 +155,10 @@ module _ {h : ℕ} {a : Indexed} {r : Fates} {told : ℕ} (F : Follows h a r tol
   pub arrival-count : length (arrival r (a .base + d) .lost) ≡ length (r .lost) + sizeOf (givenUpI a (limitOf d))
   arrival-count = rw arrival-lost (lost-count (a .base) (r .lost) (givenUpI a (limitOf d)))
 
+  -- the runs that would be listed
+  pub arrival-listed : runsIn (drop told (arrival r (a .base + d) .lost)) ≡ runsAfterI a (limitOf d)
+  arrival-listed = ap (λ (x : Fates). runsIn (drop told (x .lost))) arrival-is ∙ step-listed F (arrival-receives F d fits) (arrival-advances F d fits)
+
   pub follows-arrive : (pdcp : ℕ) → length (runsAfterI a (limitOf d)) ≤ mostRuns → length (a .records) < mostRecords
       → Follows h (arrivedI a pdcp (placeI a (a .base + d)) d) (arrival r (a .base + d)) told
   follows-arrive pdcp few room =
@@ -188,8 +192,10 @@ arrive-done h a pdcp p d c e =
 
 -- an accepted arrival does what the rule says, and answers how many became lost
 pub follows-arrived : {h : ℕ} {a : Indexed} {r : Fates} {told : ℕ} → Follows h a r told → (pdcp d c : ℕ) → arriveI h a pdcp (placeI a (a .base + d)) d .answer ≡ done c
-    → Follows h (arriveI h a pdcp (placeI a (a .base + d)) d .state) (arrival r (a .base + d)) told × (length (arrival r (a .base + d) .lost) ≡ length (r .lost) + c)
+    → (arriveI h a pdcp (placeI a (a .base + d)) d .state ≡ arrivedI a pdcp (placeI a (a .base + d)) d)
+    × Follows h (arrivedI a pdcp (placeI a (a .base + d)) d) (arrival r (a .base + d)) told
+    × (length (arrival r (a .base + d) .lost) ≡ length (r .lost) + c)
 follows-arrived {h} {a} F pdcp d c e =
     let x = arrive-done h a pdcp (placeI a (a .base + d)) d c e in
     let new = sym (follows-has F d) ∙ x .new in
-    (rw (x .state) (follows-arrive F d new (x .fits) pdcp (x .few) (x .room)), rw (← x .count) (arrival-count F d new (x .fits)))
+    (x .state, follows-arrive F d new (x .fits) pdcp (x .few) (x .room), rw (← x .count) (arrival-count F d new (x .fits)))

@@ -9,22 +9,22 @@ use Prim.Native.Nat.{ℕ, suc, _+_, _-_, _≤_}
 use native.Mathlib.Omega.{arith}
 use borrow.Author.Tests.{ltb-true, ltb-false, le-ltb, eqb-false, ne-eqb}
 use lib.Dec.{ltb, eqb}
-use lib.ListN.{length}
+use lib.ListN.{length, drop}
 use Rattle.basics.specs.Basics.{if_then_else_, done}
 use Rattle.basics.proofs.Choices.{otherwise, tested, contrary, done-one}
 use Rattle.bearer.specs.Bearer.{answering, mostRuns}
 use Rattle.bearer.specs.Losses.{sizeOf, lowest}
 use Rattle.bearer.specs.Rule.{Fates, openBelow, highest, expiry}
 use Rattle.bearer.specs.Packets.{In, Rising}
-use Rattle.bearer.specs.KeeperMeaning.{packetsOf, indexes}
+use Rattle.bearer.specs.Account.{packetsOf, runsIn, indexes}
 use Rattle.bearer.proofs.Lists.Mapped.{each-so}
 use Rattle.bearer.proofs.Lists.Elements.{in-head, in-tail, in-cons, in-one}
-use Rattle.bearer.proofs.Answers.Accepted.{not-refused}
+use Rattle.bearer.proofs.Answers.Accepted.{same-state, not-refused}
 use Rattle.bearer.proofs.Secondary.Index.{Indexed, givenUpI, gapAt, runsAfterI, baseAfterI, topI, expiredI, expireI}
 use Rattle.bearer.proofs.Secondary.Open.{open-from}
 use Rattle.bearer.proofs.Secondary.Gaps.{least, lowest-append}
 use Rattle.bearer.proofs.Secondary.Follows.{mark-record, Follows, record-received}
-use Rattle.bearer.proofs.Secondary.GivenUp.{lost-count, above, Receives, Advances, Records, advances, above-rising, in-above, above-in, base-after-lowest, declared, follows-step}
+use Rattle.bearer.proofs.Secondary.GivenUp.{lost-count, above, Receives, Advances, Records, advances, above-rising, in-above, above-in, base-after-lowest, declared, step-listed, follows-step}
 
 -- ---- the highest accepted packet
 
@@ -54,7 +54,7 @@ top a = topI (a .base) (indexes (a .records))
 
 module _ {h : ℕ} {a : Indexed} {r : Fates} {told : ℕ} (F : Follows h a r told) where
   -- no received packet is past base and the last record
-  none-past : (j : ℕ) → In j (r .received) → j ≤ a .base + top a
+  pub none-past : (j : ℕ) → In j (r .received) → j ≤ a .base + top a
   none-past j t =
       ⊎-elim (λ e. omega (arith, ltb-true j (a .base) e))
       (λ e. top-most (a .base) (indexes (a .records)) (F .records .rising) j (F .records .from-base j (ltb-false j (a .base) e) t))
@@ -69,7 +69,7 @@ module _ {h : ℕ} {a : Indexed} {r : Fates} {told : ℕ} (F : Follows h a r tol
 
   module _ (nz : top a ≡ 0 → ⊥) where
     -- the last record is the highest accepted packet
-    highest-is : highest (r .received) ≡ a .base + top a
+    pub highest-is : highest (r .received) ≡ a .base + top a
     highest-is =
         let accepted : In (a .base + top a) (r .received) = record-received F (a .base + top a) (top-in (a .base) (indexes (a .records)) nz) in
         omega (arith, in-highest (a .base + top a) (r .received) accepted, highest-most (a .base + top a) (r .received) none-past)
@@ -106,6 +106,10 @@ module _ {h : ℕ} {a : Indexed} {r : Fates} {told : ℕ} (F : Follows h a r tol
     pub expiry-count : length (expiry r .lost) ≡ length (r .lost) + sizeOf (givenUpI a (top a))
     expiry-count = rw expiry-lost (lost-count (a .base) (r .lost) (givenUpI a (top a)))
 
+    -- the runs that would be listed
+    pub expiry-listed : runsIn (drop told (expiry r .lost)) ≡ runsAfterI a (top a)
+    expiry-listed = step-listed F expiry-receives expiry-advances
+
     expiry-records : Records h a (r .received) (top a) (a .records)
     expiry-records = record {
       rising = F .records .rising;
@@ -129,11 +133,11 @@ module _ {h : ℕ} {a : Indexed} {r : Fates} {told : ℕ} (F : Follows h a r tol
 
 -- an accepted expiry does what the rule says, and answers how many became lost
 pub follows-expired : {h : ℕ} {a : Indexed} {r : Fates} {told : ℕ} → Follows h a r told → (c : ℕ) → expireI a (top a) .answer ≡ done c
-    → Follows h (expireI a (top a) .state) (expiry r) told × (length (expiry r .lost) ≡ length (r .lost) + c)
+    → (expireI a (top a) .state ≡ expiredI a (top a)) × Follows h (expiredI a (top a)) (expiry r) told × (length (expiry r .lost) ≡ length (r .lost) + c)
 follows-expired {a = a} F c e =
     let x = not-refused (eqb (top a) 0) 17 a _ c e in
     let y = not-refused (ltb mostRuns (length (runsAfterI a (top a)))) 14 a _ c (x .1) in
     let nz = eqb-false (top a) 0 (x .0) in
     let few = ltb-false mostRuns (length (runsAfterI a (top a))) (y .0) in
     let count : sizeOf (givenUpI a (top a)) ≡ c = done-one _ c (y .1) in
-    (rw (expires F nz few) (follows-expire F nz few), rw (← count) (expiry-count F nz))
+    (same-state (expires F nz few), follows-expire F nz few, rw (← count) (expiry-count F nz))

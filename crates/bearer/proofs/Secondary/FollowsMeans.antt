@@ -1,34 +1,30 @@
--- A state that follows the packets' fates, with half the circle as its bound: its image means these fates (specs/KeeperMeaning.antt), and all
--- its packets lie within reach of base, as the image asks (ImageState.antt).
+-- A state that follows the packets' fates, with half the circle as its bound: all its packets lie within reach of base, as the image asks
+-- (ImageState.antt), and that of an account means what specs/KeeperMeaning.antt says.
 -- Assumes nothing.
 use mathlib.Core.Path.{refl}
 use Prim.Native.Nat.{ℕ, _+_, _≤_, _<_}
 use Rattle.circle.specs.Lengths.{half}
 use Rattle.bearer.specs.Losses.{Gap}
 use Rattle.bearer.specs.Rule.{Fates}
-use Rattle.bearer.specs.KeeperMeaning.{Held, Means}
+use Rattle.bearer.specs.Account.{Held, Account}
+use Rattle.bearer.specs.KeeperMeaning.{Means, keeperOf}
 use Rattle.bearer.proofs.Lists.Mapped.{each-both}
 use Rattle.bearer.proofs.Lists.Elements.{in-each}
-use Rattle.bearer.proofs.Secondary.Index.{Indexed, image}
+use Rattle.bearer.proofs.Secondary.Index.{Indexed}
 use Rattle.bearer.proofs.Secondary.ImageState.{InReach}
 use Rattle.bearer.proofs.Secondary.Runs.{maximal-each}
 use Rattle.bearer.proofs.Secondary.Follows.{mark-base, Follows}
+use Rattle.bearer.proofs.Secondary.Accounts.{indexedOf}
 
-pub follows-means : {L : ℕ} {a : Indexed} {r : Fates} {told : ℕ} (first : ℕ) → Follows (half L) a r told → Means L first (image L first a) r told
-follows-means {a = a} first F = record {
-  base = a .base;
-  runs = a .runs;
-  records = a .records;
-  same-length = refl;
+pub follows-means : {L base : ℕ} {a : Account} (first : ℕ) → Follows (half L) (indexedOf base a) (a .fates) (a .told) → Means L first (keeperOf L first base a) a
+follows-means {base = base} first F = record {
+  base = base;
   lowest = F .fates .lowest;
-  base-is = refl;
+  state-is = refl;
   not-both = F .fates .not-both;
   lost-rising = F .fates .lost-rising;
-  runs-are = refl;
-  runs-hold = F .runs .hold;
+  lost-before = F .fates .lost-before;
   told-most = F .runs .told-most;
-  runs-maximal = F .runs .maximal;
-  records-are = refl;
   records-rising = F .records .rising;
   records-received = F .records .received;
   from-base = F .records .from-base;

@@ -18,7 +18,7 @@ use Rattle.bearer.specs.Bearer.{window}
 use Rattle.bearer.specs.Losses.{Gap}
 use Rattle.bearer.specs.Rule.{Fates}
 use Rattle.bearer.specs.Packets.{In, Each}
-use Rattle.bearer.specs.KeeperMeaning.{Held, packetsOf, indexes, BeforeFirst, PastFirst}
+use Rattle.bearer.specs.Account.{Held, packetsOf, indexes}
 use Rattle.bearer.proofs.Lists.Mapped.{each-take, each-drop, each-at, each-so, each-both}
 use Rattle.bearer.proofs.Lists.Elements.{in-drop, in-split, each-set, each-in, rising-drop, each-run, run-ends}
 use Rattle.bearer.proofs.Lists.Rows.{packets-of-append, run-in}
@@ -56,6 +56,16 @@ module _ {h : ℕ} {a : Indexed} {r : Fates} {told : ℕ} (F : Follows h a r tol
       of-index P e = each-set (λ (y : Held). P (y .index)) (a .records) p x (each-at (λ (y : Held). P (y .index)) (a .records) p noHeld inside e) e
 
 -- ---- what a status lets go
+
+-- a packet lies before the first of runs, if there is one
+abbrev pub BeforeFirst : List Gap → ℕ → Type 0
+BeforeFirst [] j = Unit
+BeforeFirst (g ∷ gs) j = j < g .from
+
+-- a packet lies past the first of runs
+abbrev pub PastFirst : List Gap → ℕ → Type 0
+PastFirst [] j = ⊥
+PastFirst (g ∷ gs) j = g .to ≤ j
 
 -- how many of the lost are told when it has carried its runs
 abbrev pub toldAfter : Indexed → ℕ → ℕ

@@ -15,7 +15,7 @@ use Rattle.basics.proofs.Choices.{leb-alike, eqb-alike, choice, tested, refuted
 use Rattle.bearer.specs.Losses.{Gap, gap, outside, gaps, sizeOf, lowest}
 use Rattle.bearer.specs.Rule.{isIn, only}
 use Rattle.bearer.specs.Packets.{In, Rising}
-use Rattle.bearer.specs.KeeperMeaning.{packetsFrom, packetsOf}
+use Rattle.bearer.specs.Account.{packetsFrom, packetsOf}
 use Rattle.bearer.proofs.Lists.Elements.{in-head, in-tail, in-cons, rising-head, rising-tail}
 use Rattle.bearer.proofs.Lists.Rows.{packets-of-append, in-packets, packets-append, length-packets}
 use Rattle.bearer.proofs.Secondary.Index.{pastBase, gapAt}

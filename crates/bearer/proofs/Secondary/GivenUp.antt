@@ -16,9 +16,9 @@ use lib.Seq.{drop-append-le}
 use Rattle.basics.proofs.Choices.{tested, refuted, contrary, same-test, and-yes}
 use Rattle.bearer.specs.Bearer.{window, mostRuns, mostRecords}
 use Rattle.bearer.specs.Losses.{Gap, gaps, sizeOf, lowest}
-use Rattle.bearer.specs.Rule.{Fates, isIn, isOpen, only, openBelow, declare}
+use Rattle.bearer.specs.Rule.{Fates, isIn, isOpen, only, openBelow, declare, Lowest}
 use Rattle.bearer.specs.Packets.{In, Rising, Each}
-use Rattle.bearer.specs.KeeperMeaning.{Held, packetsFrom, packetsOf, Maximal, indexes, Lowest}
+use Rattle.bearer.specs.Account.{Held, packetsFrom, packetsOf, Maximal, runsIn, indexes}
 use Rattle.bearer.proofs.Lists.Mapped.{each-so, Below, gaps-below}
 use Rattle.bearer.proofs.Lists.Elements.{in-left, in-right, in-append, in-last, in-drop, each-in, in-each, rising-append, rising-drop, front, from-front, behind-front}
 use Rattle.bearer.proofs.Lists.Rows.{in-packets, packets-in, rising-packets}
@@ -26,6 +26,7 @@ use Rattle.bearer.proofs.Secondary.Index.{Indexed, _with-base_, _with-r
 use Rattle.bearer.proofs.Secondary.Open.{open-is, open-unreceived, received-closed, lost-closed, closed, only-alike, in-only, only-in, rising-only, open-from}
 use Rattle.bearer.proofs.Secondary.Gaps.{gaps-shift, lowest-shift, size-packets, gaps-packets, least}
 use Rattle.bearer.proofs.Secondary.Runs.{gaps-from, gaps-maximal, each-with-runs, packets-with-runs, maximal-with-runs}
+use Rattle.bearer.proofs.Secondary.RunsIn.{runs-of-packets}
 use Rattle.bearer.proofs.Secondary.Follows.{marks, mark-base, mark-run, in-marks, Follows, record-received, not-lost}
 
 -- the packets with records from base on
@@ -223,6 +224,10 @@ module _ {h : ℕ} {a : Indexed} {r : Fates} {told : ℕ} (F : Follows h a r tol
     step-runs-maximal =
         maximal-with-runs (a .base) (a .runs) (lostGaps a l) (F .runs .maximal) (lost-gaps-maximal l) (F .runs .before)
         (lost-gaps-from l)
+
+    -- they are the maximal runs of what is lost and unreported then
+    pub step-listed : runsIn (drop told (declare (having r got) n .lost)) ≡ runsAfterI a l
+    step-listed = ap runsIn (sym step-runs-hold) ∙ runs-of-packets (runsAfterI a l) step-runs-maximal
 
     step-runs-before : Each (λ (g : Gap). g .to ≤ b) (runsAfterI a l)
     step-runs-before =

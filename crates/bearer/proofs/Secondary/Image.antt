@@ -1,25 +1,26 @@
 -- The secondary's machine on numbers does what the machine on packet indexes does (Index.antt), wherever all packets of the
 -- state lie within half the circle of base: each call answers the same and leaves the image of the same state.
 -- Assumes nothing.
-use mathlib.Core.Path.{_≡_, refl, sym, _∙_, ap, ap₂}
-use mathlib.Core.Bool.{Bool, false, not}
+use mathlib.Core.Path.{_≡_, refl, sym, _∙_, ap}
+use mathlib.Core.Bool.{false}
 use Prim.Native.Nat.{ℕ, _+_, _-_, _≤_, _<_}
 use native.Mathlib.Omega.{arith}
 use native.Mathlib.Nat.{mod-lt}
 use borrow.Author.Tests.{lt-ltb, le-ltb}
 use lib.Dec.{ltb, leb, eqb}
 use lib.ListN.{length, length-map}
-use Rattle.basics.specs.Basics.{if_then_else_, _and_}
+use Rattle.basics.specs.Basics.{if_then_else_}
 use Rattle.basics.proofs.Choices.{otherwise, chosen, choice}
 use Rattle.basics.proofs.Lists.{map-inserted}
 use Rattle.circle.specs.Circle.{forward}
 use Rattle.circle.specs.Lengths.{modulusOf, half, pdcps, pdcpBefore}
 use Rattle.bearer.specs.Bearer.{mostRecords, refusing, answering}
-use Rattle.bearer.specs.Losses.{beforeBase, sizeOf}
+use Rattle.bearer.specs.Losses.{beforeBase, topOf, sizeOf}
 use Rattle.bearer.specs.Keeper as K
 use Rattle.bearer.specs.Keeper.{limitOf, _with-base_, _with-runs_, _with-records_}
 use Rattle.bearer.specs.Packets.{numberOf}
-use Rattle.bearer.specs.KeeperMeaning.{recordAt, indexes}
+use Rattle.bearer.specs.Account.{indexes}
+use Rattle.bearer.specs.KeeperMeaning.{recordAt}
 use Rattle.bearer.proofs.Lists.Mapped.{front-within}
 use Rattle.bearer.proofs.Lists.Numbers.{first-number, whole, positive, to-later, before-base}
 use Rattle.bearer.proofs.Secondary.Index.{Indexed, freshIndexed, image, imageAfter, placeI, newHeld, arrivedI, arriveI, topI, expireI}
@@ -40,8 +41,7 @@ module _ (L first : ℕ) (a : Indexed) where
       K.arriveAt (image L first a) (numberOf L first i) pdcp
       (K.placeOf (image L first a) (forward (modulusOf L) (numberOf L first (a .base)) (numberOf L first i))) (forward (modulusOf L) (numberOf L first (a .base)) (numberOf L first i)))
   not-refused-10 i pdcp fits not-closed =
-      otherwise _ _ not-closed
-      ∙ otherwise _ _ (ap₂ (λ (s t : Bool). not (s and t)) (lt-ltb (numberOf L first i) (modulusOf L) (mod-lt (first + i) (positive L))) (lt-ltb pdcp (pdcps L) fits))
+      rw (not-closed, lt-ltb (numberOf L first i) (modulusOf L) (mod-lt (first + i) (positive L)), lt-ltb pdcp (pdcps L) fits)
 
   -- the arrival of a packet before base is late
   pub late : (i pdcp : ℕ) → i < a .base → a .base ≤ i + half L → pdcp < pdcps L → a .closed ≡ false
@@ -75,6 +75,13 @@ module _ (L first : ℕ) (a : Indexed) (reach : InReach L a) where
       within : p ≤ length (a .records)
       within = rw length-map at (front-within (ltb (a .base + d)) (indexes (a .records)))
 
+  -- ... whose place is found by its distance
+  pub image-arrive-at : (d pdcp : ℕ) → d < half L
+      → K.arriveAt (image L first a) (numberOf L first (a .base + d)) pdcp (K.placeOf (image L first a) d) d ≡ imageAfter L first (arriveI (half L) a pdcp (placeI a (a .base + d)) d)
+  image-arrive-at d pdcp h =
+      ap (λ (p : ℕ). K.arriveAt (image L first a) (numberOf L first (a .base + d)) pdcp p d) (place-is L first a reach d)
+      ∙ arrive-at-is pdcp d h
+
   -- the arrival of the packet d past base, less than half the circle on
   pub image-arrive : (d pdcp : ℕ) → d < half L → pdcp < pdcps L → a .closed ≡ false
       → K.arrive (image L first a) (numberOf L first (a .base + d)) pdcp ≡ imageAfter L first (arriveI (half L) a pdcp (placeI a (a .base + d)) d)
@@ -82,8 +89,7 @@ module _ (L first : ℕ) (a : Indexed) (reach : InReach L a) where
       not-refused-10 L first a (a .base + d) pdcp fits not-closed
       ∙ otherwise _ _ (before-base (modulusOf L) first (positive L) (whole L) (a .base) (a .base + d) (omega arith) (omega arith) ∙ le-ltb (a .base + d) (a .base) (omega arith))
       ∙ ap (λ (x : ℕ). K.arriveAt (image L first a) (numberOf L first (a .base + d)) pdcp (K.placeOf (image L first a) x) x) distance
-      ∙ ap (λ (p : ℕ). K.arriveAt (image L first a) (numberOf L first (a .base + d)) pdcp p d) (place-is L first a reach d)
-      ∙ arrive-at-is pdcp d h
+      ∙ image-arrive-at d pdcp h
     where
       distance : forward (modulusOf L) (numberOf L first (a .base)) (numberOf L first (a .base + d)) ≡ d
       distance = to-later (modulusOf L) first (positive L) (a .base) (a .base + d) (omega arith) (omega (arith, whole L)) ∙ (let e : a .base + d - a .base ≡ d = omega arith in e)
@@ -95,8 +101,12 @@ module _ (L first : ℕ) (a : Indexed) (reach : InReach L a) where
       (λ i. answering (sizeOf (given-up-is L first a reach top i))
       (image L first a with-base base-after-is L first a reach top top i with-runs runs-after-are L first a reach top h i)))
 
-  pub image-expire : a .closed ≡ false → K.expire (image L first a) ≡ imageAfter L first (expireI a (topI (a .base) (indexes (a .records))))
-  image-expire not-closed =
-      otherwise _ _ not-closed
-      ∙ ap (K.expireBelow (image L first a)) (top-is L first a reach)
+  -- an expiry of an open end
+  pub image-expire-below : K.expireBelow (image L first a) (topOf (modulusOf L) (numberOf L first (a .base)) (K.held (image L first a)))
+      ≡ imageAfter L first (expireI a (topI (a .base) (indexes (a .records))))
+  image-expire-below =
+      ap (K.expireBelow (image L first a)) (top-is L first a reach)
       ∙ expire-below-is (topI (a .base) (indexes (a .records))) (top-near L first a reach)
+
+  pub image-expire : a .closed ≡ false → K.expire (image L first a) ≡ imageAfter L first (expireI a (topI (a .base) (indexes (a .records))))
+  image-expire not-closed = otherwise _ _ not-closed ∙ image-expire-below

@@ -19,9 +19,10 @@ use Rattle.bearer.specs.Losses.{Gap, firstBehind, fromOn, frontOf, topOf
 use Rattle.bearer.specs.Keeper as K
 use Rattle.bearer.specs.Keeper.{limitOf}
 use Rattle.bearer.specs.Packets.{numberOf, Each}
-use Rattle.bearer.specs.KeeperMeaning.{Held, recordAt, runAt, indexes}
+use Rattle.bearer.specs.Account.{Held, runAt, indexes}
+use Rattle.bearer.specs.KeeperMeaning.{recordAt}
 use Rattle.bearer.proofs.Lists.Mapped.{each-so, each-both, each-drop, each-at, each-map, each-behind, map-alike, front-alike, Below, gaps-below}
-use Rattle.bearer.proofs.Lists.Numbers.{whole, positive, onward-is, to-later, same-number, behind-is, past-is, from-on}
+use Rattle.bearer.proofs.Lists.Numbers.{whole, positive, onward-is, to-later, same-packet, same-number, behind-is, past-is, from-on}
 use Rattle.bearer.proofs.Secondary.Index.{Indexed, image, firstBack, froms, floorI, placeI, hasI, pastBase, aboveI, givenUpI, gapAt, joinedI, withRunsI, runsAfterI, baseAfterI, arrivedBaseI, topI}
 
 -- All packets of a state lie within half the circle of base: none further behind, no record as far ahead. Runs hold packets
@@ -34,8 +35,12 @@ pub record InReach (L : ℕ) (a : Indexed) : Type 0 where
   pub confirmed-before : Each (λ (h : Held). h .confirmed ≡ true → h .index < a .base) (a .records)
 
 -- a packet within half a circle of base
-abbrev Near : ℕ → ℕ → ℕ → Type 0
+abbrev pub Near : ℕ → ℕ → ℕ → Type 0
 Near h base j = (base ≤ j + h) × (j < base + h)
+
+-- no two such packets have one number
+pub one-packet : (L first base i j : ℕ) → Near (half L) base i → Near (half L) base j → numberOf L first i ≡ numberOf L first j → i ≡ j
+one-packet L first base i j near-i near-j e = same-packet (modulusOf L) first (positive L) i j (omega (arith, whole L)) (omega (arith, whole L)) e
 
 -- a run within half a circle before base
 abbrev pub Listed : ℕ → ℕ → Gap → Type 0
@@ -128,10 +133,12 @@ module _ (L first base : ℕ) where
 -- ---- the state, seen from base
 
 module _ (L first : ℕ) (a : Indexed) (reach : InReach L a) where
+  pub near-held : Each (λ (h : Held). Near (half L) (a .base) (h .index)) (a .records)
+  near-held =
+      each-both (λ (h : Held). a .base ≤ h .index + half L) (λ (h : Held). h .index < a .base + half L) (a .records) (reach .floor-records) (reach .records-ahead)
+
   near-records : Each (Near (half L) (a .base)) (indexes (a .records))
-  near-records =
-      each-map (Near (half L) (a .base)) (λ (h : Held). h .index) (a .records)
-      (each-both (λ (h : Held). a .base ≤ h .index + half L) (λ (h : Held). h .index < a .base + half L) (a .records) (reach .floor-records) (reach .records-ahead))
+  near-records = each-map (Near (half L) (a .base)) (λ (h : Held). h .index) (a .records) near-held
 
   pub listed-runs : Each (Listed (half L) (a .base)) (a .runs)
   listed-runs =

@@ -1,28 +1,29 @@
 -- The secondary's machine on numbers does what the machine on packet indexes does (Index.antt), wherever all packets of the
 -- state lie within half the circle of base: confirm and status; and the numbers that runs hold, packet by packet.
 -- Assumes nothing.
-use mathlib.Core.Path.{_≡_, refl, sym, _∙_, ap, ap₂}
+use mathlib.Core.Path.{_≡_, refl, sym, _∙_, ap}
 use mathlib.Core.Bool.{Bool, true, false, not}
-use mathlib.Core.List.{List, [], _∷_, _++_, map, map-map, map-append}
+use mathlib.Core.List.{List, [], _∷_, map, map-map}
 use Prim.Native.Nat.{ℕ, zero, suc, _+_, _-_, _≤_, _<_}
 use native.Mathlib.Omega.{arith}
-use native.Mathlib.Nat.{mod-lt}
-use borrow.Author.Tests.{ltb-true, lt-ltb, leb-false, eqb-true, not-false}
+use borrow.Author.Tests.{ltb-true, leb-false, eqb-true, not-false}
 use lib.Dec.{ltb, leb, eqb}
 use lib.ListN.{length, getD, take, drop, set, length-map}
 use Rattle.basics.specs.Basics.{if_then_else_, _and_, _or_, done, all}
 use Rattle.basics.proofs.Choices.{or-false, leb-alike}
 use Rattle.basics.proofs.Lists.{map-take, map-drop, map-set, getD-within}
 use Rattle.circle.specs.Circle.{forward}
-use Rattle.circle.specs.Lengths.{isLong, modulusOf, half}
-use Rattle.frame_layout.specs.Frames.{Range, mostRanges, inForm}
+use Rattle.circle.specs.Lengths.{modulusOf, half}
+use Rattle.frame_layout.specs.Frames.{Range, mostRanges}
 use Rattle.bearer.specs.Losses.{Gap, beforeBase}
 use Rattle.bearer.specs.Keeper as K
 use Rattle.bearer.specs.Keeper.{_with-reported_, _with-closed_, _with-runs_, _with-records_}
-use Rattle.bearer.specs.Packets.{numberOf, numbersFrom, inRange, inRanges, Each}
-use Rattle.bearer.specs.KeeperMeaning.{Held, recordAt, runAt, packetsFrom, packetsOf}
+use Rattle.bearer.specs.Packets.{numberOf, inRanges, Each}
+use Rattle.bearer.specs.Account.{Held, runAt, packetsOf}
+use Rattle.bearer.specs.KeeperMeaning.{recordAt}
 use Rattle.bearer.proofs.Lists.Mapped.{each-so, each-both, each-drop, each-take, each-at, runWith-alike}
-use Rattle.bearer.proofs.Lists.Numbers.{whole, positive, onward-is, to-later, before-base}
+use Rattle.bearer.proofs.Lists.RunNumbers.{Short, runs-expand}
+use Rattle.bearer.proofs.Lists.Numbers.{whole, positive, to-later, before-base}
 use Rattle.bearer.proofs.Answers.Accepted.{same-state, not-refused}
 use Rattle.bearer.proofs.Secondary.Index.{Indexed, image, noHeld, confirmedI, mayGoI, letGoI, deliveredI, highestI, reportedI}
 use Rattle.bearer.proofs.Secondary.ImageState.{InReach, Listed, listed-runs}
@@ -30,7 +31,7 @@ use Rattle.bearer.proofs.Secondary.ImageState.{InReach, Listed, listed-
 -- ---- confirm
 
 -- where a number first stands, it stands
-index-of-at : (n : ℕ) (ms : List ℕ) → K.indexOf n ms < length ms → getD ms (K.indexOf n ms) 0 ≡ n
+pub index-of-at : (n : ℕ) (ms : List ℕ) → K.indexOf n ms < length ms → getD ms (K.indexOf n ms) 0 ≡ n
 index-of-at n [] h = absurd (omega arith)
 index-of-at n (m ∷ ms) h = by (eqb m n) refl h (index-of-at n ms)
   where
@@ -49,10 +50,10 @@ pub record Confirms (L first : ℕ) (a : Indexed) (n : ℕ) : Type 0 where
 
 module _ (L first : ℕ) (a : Indexed) (reach : InReach L a) where
   -- the record at a place is that of the packet there
-  record-at : (p : ℕ) → p < length (a .records) → getD (map (recordAt L first) (a .records)) p K.noRecord ≡ recordAt L first (getD (a .records) p noHeld)
+  pub record-at : (p : ℕ) → p < length (a .records) → getD (map (recordAt L first) (a .records)) p K.noRecord ≡ recordAt L first (getD (a .records) p noHeld)
   record-at p h = getD-within (recordAt L first) (a .records) p K.noRecord noHeld h
 
-  held-at : (p : ℕ) → p < length (a .records) → getD (K.held (image L first a)) p 0 ≡ numberOf L first (getD (a .records) p noHeld .index)
+  pub held-at : (p : ℕ) → p < length (a .records) → getD (K.held (image L first a)) p 0 ≡ numberOf L first (getD (a .records) p noHeld .index)
   held-at p h =
       ap (λ (ns : List ℕ). getD ns p 0) (map-map (λ (r : K.Record). r .number) (recordAt L first) (a .records))
       ∙ getD-within (λ (x : Held). numberOf L first (x .index)) (a .records) p 0 noHeld h
@@ -77,9 +78,9 @@ module _ (L first : ℕ) (a : Indexed) (reach : InReach L a) where
       let k = image L first a in
       let p = K.indexOf n (K.held k) in
       let t9 = not-refused (a .closed) 9 k _ tt e in
-      let t10 = not-refused (not (ltb n (modulusOf L))) 10 k _ tt (t9 .1) in
-      let t16 = not-refused (leb (length (K.held k)) p) 16 k _ tt (t10 .1) in
-      let last = not-refused (not (beforeBase (modulusOf L) (k .base) n) or getD (k .records) p K.noRecord .confirmed) 16 k _ tt (t16 .1) in
+      let t10 = not-refused (not (ltb n (modulusOf L))) _ k _ tt (t9 .1) in
+      let t16 = not-refused (leb (length (K.held k)) p) _ k _ tt (t10 .1) in
+      let last = not-refused (K.notNow k n p) _ k _ tt (t16 .1) in
       let before = not-false (beforeBase (modulusOf L) (k .base) n) (or-false (not (beforeBase (modulusOf L) (k .base) n)) _ (last .0) .0) in
       let found : p < length (K.held k) = leb-false (length (K.held k)) p (t16 .0) in
       let within : p < length (a .records) = simp length-map at found in
@@ -153,42 +154,6 @@ module _ (L first : ℕ) (a : Indexed) (reach : InReach L a) where
       records = ap (λ (n : ℕ). drop n (map (recordAt L first) (a .records))) let-go-is ∙ map-drop (recordAt L first) (letGoI a) (a .records)
 
 -- ---- the numbers in runs
-
--- numbers from a packet's on are those of the packets from it on
-numbers-from-are : (L first i c : ℕ) → numbersFrom L (numberOf L first i) c ≡ map (numberOf L first) (packetsFrom i c)
-numbers-from-are L first i zero = refl
-numbers-from-are L first i (suc c) =
-    let next : i + 1 ≡ suc i = omega arith in
-    ap (λ (ns : List ℕ). numberOf L first i ∷ ns)
-    (ap (λ (n : ℕ). numbersFrom L n c) (onward-is (modulusOf L) first (positive L) i 1 ∙ ap (numberOf L first) next) ∙ numbers-from-are L first (suc i) c)
-
--- runs of packets are ranges of the form
-pub runs-fit : (L first : ℕ) (gs : List Gap) → all (inForm (isLong L)) (map (runAt L first) gs) ≡ true
-runs-fit L first [] = refl
-runs-fit L first (g ∷ gs) =
-    rw (lt-ltb (numberOf L first (g .from)) (modulusOf L) (mod-lt (first + g .from) (positive L)), lt-ltb (numberOf L first (g .to - 1)) (modulusOf L) (mod-lt (first + (g .to - 1)) (positive L)), runs-fit L first gs)
-
--- a run whose numbers are all different
-abbrev pub Short : ℕ → Gap → Type 0
-Short L g = (g .from < g .to) × (g .to - g .from ≤ modulusOf L)
-
-module _ (L first : ℕ) where
-  -- its numbers are those of its packets
-  pub run-expand : (g : Gap) → g .from < g .to → g .to - g .from ≤ modulusOf L
-      → inRange L (runAt L first g) ≡ map (numberOf L first) (packetsFrom (g .from) (g .to - g .from))
-  run-expand g holds short =
-      ap (numbersFrom L (numberOf L first (g .from))) (ap suc (to-later (modulusOf L) first (positive L) (g .from) (g .to - 1) (omega arith) (omega arith)) ∙ count)
-      ∙ numbers-from-are L first (g .from) (g .to - g .from)
-    where
-      count : suc (g .to - 1 - g .from) ≡ g .to - g .from
-      count = omega arith
-
-  pub runs-expand : (gs : List Gap) → Each (Short L) gs
-      → inRanges L (map (runAt L first) gs) ≡ map (numberOf L first) (packetsOf gs)
-  runs-expand [] hs = refl
-  runs-expand (g ∷ gs) hs =
-      ap₂ _++_ (run-expand g (hs .0 .0) (hs .0 .1)) (runs-expand gs (hs .1))
-      ∙ sym (map-append (numberOf L first) (packetsFrom (g .from) (g .to - g .from)) (packetsOf gs))
 
 module _ (L first : ℕ) (a : Indexed) (reach : InReach L a) where
   short-runs : Each (Short L) (a .runs)

@@ -14,7 +14,8 @@ use Rattle.bearer.specs.Bearer.{After, refusing, answering, window, most
 use Rattle.bearer.specs.Losses.{Gap, gaps, sizeOf, lowest, frontOf}
 use Rattle.bearer.specs.Keeper.{Keeper, limitOf, runWith}
 use Rattle.bearer.specs.Packets.{numberOf}
-use Rattle.bearer.specs.KeeperMeaning.{Held, recordAt, runAt, indexes}
+use Rattle.bearer.specs.Account.{Held, runAt, indexes}
+use Rattle.bearer.specs.KeeperMeaning.{recordAt}
 
 -- the secondary's end on indexes
 pub record Indexed : Type 0 where

@@ -5,16 +5,16 @@ use mathlib.Core.Path.{_≡_, refl, sym, _∙_, ap}
 use mathlib.Core.Bool.{Bool, true, false, not}
 use mathlib.Core.List.{List, [], _∷_, _++_}
 use mathlib.Core.Logic.{_⊎_, inl, inr, ⊎-elim}
-use Prim.Native.Nat.{ℕ, zero, suc, _+_, _-_, _<_}
+use Prim.Native.Nat.{ℕ, zero, suc, _+_, _-_, _≤_, _<_}
 use native.Mathlib.Nat.{zero-add}
 use native.Mathlib.Numerals.{add-one}
 use native.Mathlib.Omega.{arith}
 use borrow.Author.Tests.{ltb-true, ltb-false, not-true}
 use lib.Dec.{ltb}
-use Rattle.basics.proofs.Choices.{tested, contrary, and-true, and-no}
-use Rattle.bearer.specs.Rule.{Fates, isIn, isOpen, below, only, openBelow}
+use Rattle.basics.proofs.Choices.{tested, contrary, and-true, and-no, order}
+use Rattle.bearer.specs.Rule.{Fates, isIn, isOpen, Lowest, below, only, openBelow}
 use Rattle.bearer.specs.Packets.{In, Rising}
-use Rattle.bearer.specs.KeeperMeaning.{packetsFrom}
+use Rattle.bearer.specs.Account.{packetsFrom}
 use Rattle.bearer.proofs.Lists.Elements.{in-head, in-tail, in-cons, rising-head, rising-tail, rising-cons}
 use Rattle.bearer.proofs.Lists.Rows.{in-packets, packets-append}
 
@@ -35,6 +35,13 @@ lost-closed r i q = rw q (and-no (not (isIn i (r .received))))
 pub closed : (r : Fates) (i : ℕ) → isOpen r i ≡ false → In i (r .received) ⊎ In i (r .lost)
 closed r i h =
     ⊎-elim (λ p. inl p) (λ p. ⊎-elim (λ q. inr q) (λ q. absurd (contrary (open-is r i p q) h)) (tested (isIn i (r .lost)))) (tested (isIn i (r .received)))
+
+-- there is one lowest open packet
+pub one-lowest : (r : Fates) (b c : ℕ) → Lowest r b → Lowest r c → b ≡ c
+one-lowest r b c l m =
+    ⊎-elim (λ (h : b < c). absurd (contrary (l .open-itself) (m .none-below b h)))
+    (λ (h : c ≤ b). ⊎-elim (λ (g : c < b). absurd (contrary (m .open-itself) (l .none-below c g))) (λ (g : b ≤ c). omega arith) (order c b))
+    (order b c)
 
 -- ---- the elements of a list that have a property
 

@@ -11,10 +11,10 @@ use lib.ListN.{drop}
 use Rattle.basics.proofs.Choices.{tested}
 use Rattle.bearer.specs.Losses.{Gap, gap, gaps}
 use Rattle.bearer.specs.Packets.{In, Rising, Each}
-use Rattle.bearer.specs.KeeperMeaning.{packetsFrom, packetsOf, Maximal}
+use Rattle.bearer.specs.Account.{packetsFrom, packetsOf, Maximal}
 use Rattle.bearer.proofs.Lists.Mapped.{each-append, each-so}
-use Rattle.bearer.proofs.Lists.Elements.{in-head, in-tail, rising-head, rising-tail}
-use Rattle.bearer.proofs.Lists.Rows.{packets-append, packets-of-append}
+use Rattle.bearer.proofs.Lists.Elements.{in-head, in-tail, in-cons, in-right, in-none, rising-head, rising-tail}
+use Rattle.bearer.proofs.Lists.Rows.{packets-append, packets-of-append, run-in}
 use Rattle.bearer.proofs.Secondary.Index.{froms, joinedI, withRunsI}
 use Rattle.bearer.proofs.Secondary.Gaps.{gaps-past, gaps-inside}
 
@@ -28,13 +28,13 @@ pub maximal-tail : (g : Gap) (gs : List Gap) → Maximal (g ∷ gs) → Maximal 
 maximal-tail g [] m = tt
 maximal-tail g (h ∷ hs) m = m .2
 
-maximal-head : (g : Gap) (gs : List Gap) → Maximal (g ∷ gs) → Each (λ (h : Gap). g .to < h .from) gs
+pub maximal-head : (g : Gap) (gs : List Gap) → Maximal (g ∷ gs) → Each (λ (h : Gap). g .to < h .from) gs
 maximal-head g [] m = tt
 maximal-head g (h ∷ hs) m =
     let first = maximal-first h hs (m .2) in
     (m .1, each-so hs (λ k l. omega arith) (maximal-head h hs (m .2)))
 
-maximal-cons : (g : Gap) (gs : List Gap) → g .from < g .to → Each (λ (h : Gap). g .to < h .from) gs → Maximal gs → Maximal (g ∷ gs)
+pub maximal-cons : (g : Gap) (gs : List Gap) → g .from < g .to → Each (λ (h : Gap). g .to < h .from) gs → Maximal gs → Maximal (g ∷ gs)
 maximal-cons g [] f e m = f
 maximal-cons g (h ∷ hs) f e m = (f, e .0, m)
 
@@ -52,6 +52,15 @@ pub maximal-rising : (gs : List Gap) → Maximal gs → Rising (froms gs)
 maximal-rising [] m = tt
 maximal-rising (g ∷ []) m = tt
 maximal-rising (g ∷ h ∷ hs) m = (omega arith, maximal-rising (h ∷ hs) (m .2))
+
+-- a run's first packet is one of theirs
+pub starts-in : (gs : List Gap) → Maximal gs → (f : ℕ) → In f (froms gs) → In f (packetsOf gs)
+starts-in [] m f t = absurd (in-none t)
+starts-in (g ∷ gs) m f t =
+    let first = maximal-first g gs m in
+    ⊎-elim (λ q. run-in g gs f (omega arith) (omega arith))
+    (λ u. in-right f (packetsFrom (g .from) (g .to - g .from)) (packetsOf gs) (starts-in gs (maximal-tail g gs m) f u))
+    (in-cons f (g .from) (froms gs) t)
 
 -- ---- gaps between records
 

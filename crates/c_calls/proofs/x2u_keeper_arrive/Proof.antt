@@ -30,13 +30,16 @@ refused-requires : tie.Need-refused-requires
 refused-requires c κs = search needs
 
 returns : tie.Need-returns
-returns c = let k = told c in accepted (c .value .ok) (c .value .ensures) (ap counts (counted _ _ _ _ (k .before .before .arrive .ensures .0) (k .n .given .1)))
+returns c =
+    let k = told c in
+    let said = k .before .before .arrive .ensures in
+    accepted (c .value .ok) (c .value .ensures) (ap counts (counted _ _ _ _ (said .0) (k .n .given .1))) (said .1 .1)
 
 returns-2 : tie.Need-returns-2
 returns-2 c =
     let k = told-refused c in
     let said = k .before .before .arrive .ensures in
-    (left-as (c .refused .ok) (c .refused .ensures) (ap counts (counted _ _ _ _ (said .0) (k .n2 .given .1))), λ m q. said .1 _ (k .n2 .given .1))
+    (left-as (c .refused .ok) (c .refused .ensures) (ap counts (counted _ _ _ _ (said .0) (k .n2 .given .1))), (λ m q. said .1 .0 _ (k .n2 .given .1), said .1 .1))
 
 pub x2u-keeper-arrive-spec : {M : Type 1} → statement M
 x2u-keeper-arrive-spec =

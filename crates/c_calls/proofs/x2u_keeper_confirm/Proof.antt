@@ -24,13 +24,15 @@ refused-requires : tie.Need-refused-requires
 refused-requires c κs = search needs
 
 returns : tie.Need-returns
-returns c = (ap settles (confirmed _ _ _ _ (c .before .before .confirm .ensures .0) (c .enum-told .given .1)), λ m q. not-below q)
+returns c =
+    let said = c .before .before .confirm .ensures in
+    (ap settles (confirmed _ _ _ _ (said .0) (c .enum-told .given .1)), (λ m q. not-below q, said .1 .1))
 
 returns-2 : tie.Need-returns-2
 returns-2 c =
     let k = told-refused c in
     let said = k .before .before .confirm .ensures in
-    (left-as (c .refused .ok) (c .refused .ensures) (ap settles (confirmed _ _ _ _ (said .0) (k .n .given .1))), λ m q. said .1 _ (k .n .given .1))
+    (left-as (c .refused .ok) (c .refused .ensures) (ap settles (confirmed _ _ _ _ (said .0) (k .n .given .1))), (λ m q. said .1 .0 _ (k .n .given .1), said .1 .1))
 
 pub x2u-keeper-confirm-spec : {M : Type 1} → statement M
 x2u-keeper-confirm-spec =

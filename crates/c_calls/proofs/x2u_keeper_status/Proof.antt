@@ -90,7 +90,7 @@ returns : tie.Need-returns
 returns c =
     let n = told (c .before) in
     let k = said n in
-    accepted (c .octets .ok) (c .octets .ensures ∙ whole n) (ap reports (reported _ _ _ _ (asked k) (k .status .ensures .0) (n .n .given .1)) ∙ final k)
+    accepted (c .octets .ok) (c .octets .ensures ∙ whole n) (ap reports (reported _ _ _ _ (asked k) (k .status .ensures .0) (n .n .given .1)) ∙ final k) (k .status .ensures .1 .1)
 
 same-length-2 : tie.Need-same-length-2
 same-length-2 c = search needs
@@ -100,7 +100,7 @@ returns-2 c =
     let n = told-refused c in
     let k = said-refused n in (
       left-as (c .refused .ok) (c .refused .ensures) (ap reports (reported _ _ _ _ (asked k) (k .status .ensures .0) (n .n2 .given .1)) ∙ final k),
-      λ m q. k .status .ensures .1 _ (n .n2 .given .1),
+      (λ m q. k .status .ensures .1 .0 _ (n .n2 .given .1), k .status .ensures .1 .1),
     )
 
 pub x2u-keeper-status-spec : {M : Type 1} → statement M

@@ -1,7 +1,10 @@
 -- `add_record`: a record is put at the same place of all three arrays. Assumes nothing.
+use mathlib.Core.Path.{refl}
 use native.Mathlib.Omega.{arith}
 use Rattle.keeper.proofs.Records.{records-added}
+use Rattle.keeper.proofs.Plain.{marked-added}
 use borrow.Author.Needs.{needs}
+use borrow.Author.Tests.{ltb-true}
 use Rattle.keeper.proofs.add_record.Statement.{statement}
 use Rattle.keeper.proofs.add_record.Tie as tie
 
@@ -30,9 +33,11 @@ returns c =
     let a = h .before .args in
     let numbers = first .before .put-in-arg .given .0 in
     let pdcps = c .before .before .before .put-in-arg2 .given .0 in
-    let marks = c .before .put-in-arg3 .given .0 in
-    records-added (a .numbers .now) (a .pdcps .now) (a .marks .now) _ _ _ (a .word) (h .held-in .result) (h .held-in .ensures) (a .place) (a .number) (a .pdcp) (omega arith) (omega arith) (omega arith) (omega arith) (omega arith)
-    (first .put-in .ensures) (c .before .before .put-in2 .ensures) (c .put-in3 .ensures)
+    let marks = c .before .put-in-arg3 .given .0 in (
+      records-added (a .numbers .now) (a .pdcps .now) (a .marks .now) _ _ _ (a .word) (h .held-in .result) (h .held-in .ensures) (a .place) (a .number) (a .pdcp) (omega arith) (omega arith) (omega arith) (omega arith) (omega arith)
+          (first .put-in .ensures) (c .before .before .put-in2 .ensures) (c .put-in3 .ensures),
+      λ marked. marked-added (a .word) (h .held-in .result) (h .held-in .ensures) marked (a .place) _ (ltb-true _ 2 refl) (omega arith) (c .put-in3 .ensures),
+    )
 
 pub add-record-spec : {M : Type 1} → statement M
 add-record-spec =

@@ -11,6 +11,7 @@ use Rattle.keeper_state.specs.State.{stateIn, Fronts}
 use Rattle.keeper_judge.specs.Judgements.{JudgesArrival, AcceptsArrival}
 use Rattle.keeper.specs.View.{wordsIn}
 use Rattle.keeper.proofs.Changed.{losing, arrived}
+use Rattle.keeper.proofs.Plain.{plain-moved}
 use Rattle.keeper.proofs.Unique.{lost-not}
 use Rattle.keeper.proofs.arrive.Statement.{statement}
 use Rattle.keeper.proofs.arrive.Tie as tie
@@ -100,7 +101,7 @@ returns c =
     let r = read j in
     let a = start r .args in
     let refused = subst (λ (r : Arrival). JudgesArrival r (before j) (a .number) (a .pdcp)) (c .before .n .given .1) (judges j) in
-    (sym (subst (λ (w : Words). arrive (state (start r) w) (a .number) (a .pdcp) ≡ refusing (c .before .n .given .0 .0) (state (start r) w)) (r .read .ensures) refused), λ n e. refl)
+    (sym (subst (λ (w : Words). arrive (state (start r) w) (a .number) (a .pdcp) ≡ refusing (c .before .n .given .0 .0) (state (start r) w)) (r .read .ensures) refused), (λ n e. refl, λ plain. plain))
 
 returns-2 : tie.Need-returns-2
 returns-2 c =
@@ -109,9 +110,9 @@ returns-2 c =
     let p = accepted l in
     let r = read (judged p) in
     let a = start r .args in (
-      arrived (r .read .result) (a .numbers .now) (a .pdcps .now) (a .marks .now) (a .starts .now) (a .ends .now) (accepts p) (fronts p) (c .store .ensures) (c .before .moved .ensures) (d .add-record .last .0) (d .add-record .last .1 .0) (d .add-record .last .1 .1 .0) (l .list-lost .last .1 .0) (l .list-lost .last .1 .1 .0) (l .list-lost .ensures) (d .add-record .ensures)
+      arrived (r .read .result) (a .numbers .now) (a .pdcps .now) (a .marks .now) (a .starts .now) (a .ends .now) (accepts p) (fronts p) (c .store .ensures) (c .before .moved .ensures) (d .add-record .last .0) (d .add-record .last .1 .0) (d .add-record .last .1 .1 .0) (l .list-lost .last .1 .0) (l .list-lost .last .1 .1 .0) (l .list-lost .ensures) (d .add-record .ensures .0)
           ∙ machine r,
-      λ n e. absurd (lost-not _ n e),
+      (λ n e. absurd (lost-not _ n e), λ plain. plain-moved (r .read .result) (d .add-record .ensures .1) (plan p .base) (plan p .lost .runs) (accepts p .loses .few) (c .store .ensures) (c .before .moved .ensures) (rw (r .read .ensures) plain)),
     )
 
 pub arrive-spec : {M : Type 1} → statement M

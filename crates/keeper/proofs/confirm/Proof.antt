@@ -1,17 +1,22 @@
 -- `confirm`: the mark of the record that was found is set; a refused confirm changes no array. Assumes nothing.
 use mathlib.Core.Path.{_≡_, refl, sym, subst}
+use mathlib.Core.Bool.{true}
 use mathlib.Core.List.{List}
 use Prim.Native.Nat.{ℕ, _<_}
 use native.Mathlib.Omega.{arith}
 use borrow.Author.Needs.{needs}
+use borrow.Author.Tests.{ltb-true}
 use lib.ListN.{set}
+use Rattle.basics.specs.Basics.{isSet}
 use Rattle.bearer.specs.Bearer.{refusing, answering, mostRecords}
 use Rattle.bearer.specs.Keeper.{Keeper, confirm}
 use Rattle.keeper_report.specs.declared.Found.{Found}
 use Rattle.keeper_state.specs.declared.Words.{Words}
 use Rattle.keeper_state.specs.State.{stateIn}
 use Rattle.keeper_report.specs.Reports.{JudgesConfirm, AcceptsConfirm}
+use Rattle.keeper.specs.View.{wordsIn}
 use Rattle.keeper.proofs.Changed.{marked-within, confirmed}
+use Rattle.keeper.proofs.Plain.{plain-confirmed}
 use Rattle.keeper.proofs.Unique.{confirmed-not}
 use Rattle.keeper.proofs.confirm.Statement.{statement}
 use Rattle.keeper.proofs.confirm.Tie as tie
@@ -49,6 +54,17 @@ within c =
     let a = start r .args in
     marked-within (r .read .result) (a .numbers .now) (a .pdcps .now) (a .marks .now) (a .starts .now) (a .ends .now) (accepts c)
 
+-- a mark that is yes delivers the record that was found
+delivered : (c : tie.After-at) (mark : ℕ) → isSet mark ≡ true
+    → let s = start (read (judged c)) in let w = wordsIn (s .args .words .now) in
+    answering tt (state s w (set (s .args .marks .now) (c .at .given .0 .0) mark)) ≡ confirm (state s w (s .args .marks .now)) (s .args .number)
+delivered c mark set-is =
+    let r = read (judged c) in
+    let a = start r .args in
+    let done = confirmed (r .read .result) (a .numbers .now) (a .pdcps .now) (a .marks .now) (a .starts .now) (a .ends .now) (accepts c) mark set-is in
+    let at = c .at .given .0 .0 in
+    subst (λ (w : Words). answering tt (state (start r) w (set (a .marks .now) at mark)) ≡ confirm (state (start r) w (a .marks .now)) (a .number)) (r .read .ensures) done
+
 -- ---- the needs
 
 read-requires : tie.Need-read-requires
@@ -75,16 +91,14 @@ returns c =
     let r = read j in
     let a = start r .args in
     let refused = subst (λ (r : Found). JudgesConfirm r (before j) (a .number)) (c .before .n .given .1) (judges j) in
-    (sym (subst (λ (w : Words). confirm (state (start r) w (a .marks .now)) (a .number) ≡ refusing (c .before .n .given .0 .0) (state (start r) w (a .marks .now))) (r .read .ensures) refused), λ n e. refl)
+    (sym (subst (λ (w : Words). confirm (state (start r) w (a .marks .now)) (a .number) ≡ refusing (c .before .n .given .0 .0) (state (start r) w (a .marks .now))) (r .read .ensures) refused), (λ n e. refl, λ plain. plain))
 
 returns-2 : tie.Need-returns-2
 returns-2 c =
-    let m = c .before in
-    let r = read (judged m) in
-    let a = start r .args in
-    let at = m .at .given .0 .0 in
-    let done = confirmed (r .read .result) (a .numbers .now) (a .pdcps .now) (a .marks .now) (a .starts .now) (a .ends .now) (accepts m) in
-    (subst (λ (w : Words). answering tt (state (start r) w (set (a .marks .now) at 1)) ≡ confirm (state (start r) w (a .marks .now)) (a .number)) (r .read .ensures) done, λ n e. absurd (confirmed-not n e))
+    let m = c .before in (
+      delivered m _ refl,
+      (λ n e. absurd (confirmed-not n e), plain-confirmed (m .at .given .0 .0) _ (ltb-true _ 2 refl)),
+    )
 
 pub confirm-spec : {M : Type 1} → statement M
 confirm-spec =

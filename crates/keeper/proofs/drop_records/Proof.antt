@@ -1,5 +1,6 @@
 -- `drop_records`: all three arrays lose the same records at the front. Assumes nothing.
 use Rattle.keeper.proofs.Records.{records-left}
+use Rattle.keeper.proofs.Plain.{marked-left}
 use borrow.Author.Needs.{needs}
 use Rattle.keeper.proofs.drop_records.Statement.{statement}
 use Rattle.keeper.proofs.drop_records.Tie as tie
@@ -26,8 +27,10 @@ returns : tie.Need-returns
 returns c =
     let first = c .before .before .before .before in
     let h = first .before .before in
-    let a = h .before .args in
-    records-left (a .numbers .now) (a .pdcps .now) (a .marks .now) _ _ _ (a .word) (h .held-in .result) (h .held-in .ensures) (a .gone) (first .take-off .ensures) (c .before .before .take-off2 .ensures) (c .take-off3 .ensures)
+    let a = h .before .args in (
+      records-left (a .numbers .now) (a .pdcps .now) (a .marks .now) _ _ _ (a .word) (h .held-in .result) (h .held-in .ensures) (a .gone) (first .take-off .ensures) (c .before .before .take-off2 .ensures) (c .take-off3 .ensures),
+      λ marked. marked-left (a .word) (h .held-in .result) (h .held-in .ensures) marked (a .gone) (c .take-off3 .ensures),
+    )
 
 pub drop-records-spec : {M : Type 1} → statement M
 drop-records-spec =

@@ -1,4 +1,5 @@
 -- `drop_runs`: both arrays lose the same runs at the front. Assumes nothing.
+use native.Mathlib.Omega.{arith}
 use Rattle.keeper.proofs.Ranges.{ranges-left}
 use borrow.Author.Needs.{needs}
 use Rattle.keeper.proofs.drop_runs.Statement.{statement}
@@ -27,8 +28,10 @@ returns c =
     let first = c .before .before in
     let m = first .before .before in
     let l = m .before in
-    let a = l .before .args in
-    ranges-left (a .starts .now) (a .ends .now) _ _ (a .word) (l .listed-in .result) (m .least .result) (l .listed-in .ensures) (m .least .ensures) (first .take-off .ensures) (c .take-off2 .ensures)
+    let a = l .before .args in (
+      ranges-left (a .starts .now) (a .ends .now) _ _ (a .word) (l .listed-in .result) (m .least .result) (l .listed-in .ensures) (m .least .ensures) (first .take-off .ensures) (c .take-off2 .ensures),
+      omega (arith, l .listed-in .ensures),
+    )
 
 pub drop-runs-spec : {M : Type 1} → statement M
 drop-runs-spec =

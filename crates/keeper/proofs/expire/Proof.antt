@@ -9,6 +9,7 @@ use Rattle.keeper_state.specs.State.{stateIn, Fronts}
 use Rattle.keeper_judge.specs.Judgements.{JudgesExpiry, AcceptsExpiry}
 use Rattle.keeper.specs.View.{wordsIn}
 use Rattle.keeper.proofs.Changed.{losing, expired}
+use Rattle.keeper.proofs.Plain.{plain-moved}
 use Rattle.keeper.proofs.Unique.{lost-not}
 use Rattle.keeper.proofs.expire.Statement.{statement}
 use Rattle.keeper.proofs.expire.Tie as tie
@@ -82,7 +83,7 @@ returns c =
     let j = c .before .before .before in
     let r = read j in
     let refused = subst (λ (r : Expiry). JudgesExpiry r (before j)) (c .before .n .given .1) (judges j) in
-    (sym (subst (λ (w : Words). expire (state (start r) w) ≡ refusing (c .before .n .given .0 .0) (state (start r) w)) (r .read .ensures) refused), λ n e. refl)
+    (sym (subst (λ (w : Words). expire (state (start r) w) ≡ refusing (c .before .n .given .0 .0) (state (start r) w)) (r .read .ensures) refused), (λ n e. refl, λ plain. plain))
 
 returns-2 : tie.Need-returns-2
 returns-2 c =
@@ -91,7 +92,7 @@ returns-2 c =
     let r = read (judged p) in
     let a = start r .args in (
       expired (r .read .result) (a .numbers .now) (a .pdcps .now) (a .marks .now) (a .starts .now) (a .ends .now) (accepts p) (fronts p) (c .store .ensures) (c .before .moved .ensures) (l .list-lost .last .1 .0) (l .list-lost .last .1 .1 .0) (l .list-lost .ensures) ∙ machine r,
-      λ n e. absurd (lost-not _ n e),
+      (λ n e. absurd (lost-not _ n e), λ plain. plain-moved (r .read .result) (λ marked. marked) (p .plan .given .0 .0 .base) (p .plan .given .0 .0 .lost .runs) (accepts p .loses .few) (c .store .ensures) (c .before .moved .ensures) (rw (r .read .ensures) plain)),
     )
 
 pub expire-spec : {M : Type 1} → statement M

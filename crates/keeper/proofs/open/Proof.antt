@@ -11,6 +11,7 @@ use Rattle.bearer.specs.Bearer.{answering}
 use Rattle.bearer.specs.Keeper.{Keeper}
 use Rattle.keeper.specs.View.{wordsOf, keeperIn}
 use Rattle.keeper.proofs.Opening.{bad-length, bad-first, bad-f, opened}
+use Rattle.keeper.proofs.Plain.{plain-opened}
 use Rattle.keeper.proofs.Unique.{opened-not}
 use Rattle.keeper.proofs.open.Statement.{statement}
 use Rattle.keeper.proofs.open.Tie as tie
@@ -50,7 +51,7 @@ returns : tie.Need-returns
 returns c =
     let s = c .before .before in
     let a = s .args in
-    (sym (bad-length (state s) (a .bits) (a .number) (a .pdcp) (sym (c .before .is-length .ensures) ∙ not-true _ (c .if1 .taken))), λ n e. refl)
+    (sym (bad-length (state s) (a .bits) (a .number) (a .pdcp) (sym (c .before .is-length .ensures) ∙ not-true _ (c .if1 .taken))), (λ n e. refl, λ e. absurd (opened-not _ (sym e))))
 
 is-long-requires : tie.Need-is-long-requires
 is-long-requires c κs = search needs
@@ -62,7 +63,7 @@ returns-2 : tie.Need-returns-2
 returns-2 c =
     let k = c .before in
     let a = start k .args in
-    (sym (bad-first (state (start k)) (a .bits) (a .number) (a .pdcp) (good-length (k .before .before)) (omega (arith, modulus-is k, c .if2 .taken))), λ n e. refl)
+    (sym (bad-first (state (start k)) (a .bits) (a .number) (a .pdcp) (good-length (k .before .before)) (omega (arith, modulus-is k, c .if2 .taken))), (λ n e. refl, λ e. absurd (opened-not _ (sym e))))
 
 pdcps-requires : tie.Need-pdcps-requires
 pdcps-requires c κs = search needs
@@ -72,7 +73,7 @@ returns-3 c =
     let p = c .before in
     let k = formed p in
     let a = start k .args in
-    (sym (bad-f (state (start k)) (a .bits) (a .number) (a .pdcp) (good-length (k .before .before)) (good-first p) (omega (arith, p .pdcps .ensures, c .if3 .taken))), λ n e. refl)
+    (sym (bad-f (state (start k)) (a .bits) (a .number) (a .pdcp) (good-length (k .before .before)) (good-first p) (omega (arith, p .pdcps .ensures, c .if3 .taken))), (λ n e. refl, λ e. absurd (opened-not _ (sym e))))
 
 fresh-requires : tie.Need-fresh-requires
 fresh-requires c κs = good-length (formed (c .before .before) .before .before)
@@ -86,8 +87,10 @@ returns-4 c =
     let p = e .before in
     let k = formed p in
     let a = start k .args in
-    let done = opened (state (start k)) (a .bits) (a .number) (a .pdcp) (good-length (k .before .before)) (good-first p) (omega (arith, p .pdcps .ensures, e .if3 .left)) in
-    (ap (λ (words : List ℕ). answering tt (keeperIn (a .numbers .now) (a .pdcps .now) (a .marks .now) (a .starts .now) (a .ends .now) words)) (c .store .ensures ∙ ap wordsOf (c .before .fresh .ensures)) ∙ sym done, λ n e. absurd (opened-not n e))
+    let done = opened (state (start k)) (a .bits) (a .number) (a .pdcp) (good-length (k .before .before)) (good-first p) (omega (arith, p .pdcps .ensures, e .if3 .left)) in (
+      ap (λ (words : List ℕ). answering tt (keeperIn (a .numbers .now) (a .pdcps .now) (a .marks .now) (a .starts .now) (a .ends .now) words)) (c .store .ensures ∙ ap wordsOf (c .before .fresh .ensures)) ∙ sym done,
+      (λ n e. absurd (opened-not n e), λ e. plain-opened (a .bits) (a .number) (a .pdcp) (good-length (k .before .before)) (c .store .ensures) (c .before .fresh .ensures)),
+    )
 
 pub open-spec : {M : Type 1} → statement M
 open-spec =

@@ -10,6 +10,7 @@ use Rattle.keeper_state.specs.State.{stateIn}
 use Rattle.keeper.specs.declared.Built.{Built}
 use Rattle.keeper.specs.Steps.{BuildsFrame, Builds}
 use Rattle.keeper.proofs.Changed.{gone-within, reported}
+use Rattle.keeper.proofs.Plain.{plain-reported}
 use Rattle.keeper.proofs.Unique.{octets-not}
 use Rattle.keeper.proofs.status.Statement.{statement}
 use Rattle.keeper.proofs.status.Tie as tie
@@ -97,7 +98,7 @@ returns c =
     let r = read b in
     let a = start r .args in
     let refused = subst (λ (r : Built). Builds r (before b) (a .desired) (a .minimum) (a .last) (a .dst .now) (buffer b)) (c .before .n .given .1) (builds b) in
-    (sym (subst (λ (w : Words). status (state (start r) w) (a .desired) (a .minimum) (a .last) (a .dst .now) ≡ unreported (c .before .n .given .0 .0) (state (start r) w) (buffer b)) (r .read .ensures) refused), λ n e. refl)
+    (sym (subst (λ (w : Words). status (state (start r) w) (a .desired) (a .minimum) (a .last) (a .dst .now) ≡ unreported (c .before .n .given .0 .0) (state (start r) w) (buffer b)) (r .read .ensures) refused), (λ n e. refl, λ plain. plain))
 
 same-length-2 : tie.Need-same-length-2
 same-length-2 c = search needs
@@ -109,9 +110,9 @@ returns-2 c =
     let o = accepted g in
     let r = read (built o) in
     let a = start r .args in (
-      reported (r .read .result) (a .numbers .now) (a .pdcps .now) (a .marks .now) (a .starts .now) (a .ends .now) (accepts o) (c .store .ensures) (c .before .reported .ensures) (d .drop-records .last .0) (d .drop-records .last .1 .0) (d .drop-records .last .1 .1 .0) (g .drop-runs .last .0) (g .drop-runs .last .1 .0) (g .drop-runs .ensures) (d .drop-records .ensures)
+      reported (r .read .result) (a .numbers .now) (a .pdcps .now) (a .marks .now) (a .starts .now) (a .ends .now) (accepts o) (c .store .ensures) (c .before .reported .ensures) (d .drop-records .last .0) (d .drop-records .last .1 .0) (d .drop-records .last .1 .1 .0) (g .drop-runs .last .0) (g .drop-runs .last .1 .0) (g .drop-runs .ensures .0) (d .drop-records .ensures .0)
           ∙ ap (λ (w : Words). status (state (start r) w) (a .desired) (a .minimum) (a .last) (a .dst .now)) (r .read .ensures),
-      λ n e. absurd (octets-not _ n e),
+      (λ n e. absurd (octets-not _ n e), λ plain. plain-reported (r .read .result) (d .drop-records .ensures .1) (gone o .highest) (a .last) (g .drop-runs .result) (g .drop-runs .ensures .1) (c .store .ensures) (c .before .reported .ensures) (rw (r .read .ensures) plain)),
     )
 
 pub status-spec : {M : Type 1} → statement M

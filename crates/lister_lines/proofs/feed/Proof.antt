@@ -1,43 +1,28 @@
 -- `feed`: each turn feeds one line more, and leaves the rest to be fed; where it stops, nothing more is. Assumes nothing.
 use Prim.Native.Nat.{ℕ, _+_, _-_, _≤_, _<_}
-use native.Mathlib.Nat.{add-zero}
 use native.Mathlib.Omega.{arith}
 use mathlib.Core.List.{List, []}
 use mathlib.Core.Path.{_≡_, refl, sym, _∙_, ap}
 use lib.ListN.{length, take, drop, length-drop, drop-of-length-le}
-use lib.Seq.{length-take-le, drop-drop}
+use lib.Seq.{drop-drop}
 use borrow.Author.Needs.{needs}
 use borrow.Author.Tests.{leb-true, not-true, not-false}
 use Rattle.basics.proofs.Parts.{rest-part}
 use Rattle.lister_answers.specs.Answers.{mostText}
-use Rattle.lister_lines.specs.Feeding.{mostHeld, feeding, leaving, leftBy, Onward}
-use Rattle.lister_lines.proofs.Feeds.{fed-full}
-use Rattle.lister_lines.proofs.Kept.{take-held}
+use Rattle.program_lines.specs.Feeding.{mostHeld, leaving}
+use Rattle.program_lines.proofs.Feeds.{take-held, stops-at, fed-full}
+use Rattle.lister_lines.specs.Listing.{lister}
+use Rattle.lister_lines.specs.Feeding.{restInto, Onward}
 use Rattle.lister_lines.proofs.feed.Statement.{statement}
 use Rattle.lister_lines.proofs.feed.Tie as tie
-
--- a feeding that stops here leaves what the code answers
-stops : (block line out : List ℕ) (taken held at : ℕ) → taken ≤ length block → held ≤ length line
-    → leftBy (record { taken = taken; held = held; at = at }) line out
-    ≡ leaving (length block) out at (record { said = []; line = take held line; rest = drop taken block })
-stops block line out taken held at h g =
-    let left : taken ≡ length block - length (drop taken block) = omega (arith, length-drop taken block) in
-    λ i. record {
-      taken = left i;
-      held = sym (length-take-le held line g) i;
-      line = take held line;
-      at = sym (add-zero at) i;
-      out = out;
-    }
 
 abbrev Inv-loop : tie.InvT-loop
 Inv-loop block line₀ held out₀ at frame₀ held₀ at₀ taken₀ line out frame held′ at′ taken =
     (taken ≤ length block)
-    × (held′ ≤ mostHeld)
-    × (length line ≡ mostHeld)
+    × (held′ ≤ mostHeld lister)
+    × (length line ≡ mostHeld lister)
     × (length out ≡ length out₀)
-    × (leaving (length block) out₀ at (feeding (length out₀ - at) (take held line₀) block)
-    ≡ leaving (length block) out at′ (feeding (length out - at′) (take held′ line) (drop taken block)))
+    × (restInto (length block) (take held line₀) block out₀ at ≡ restInto (length block) (take held′ line) (drop taken block) out at′)
 
 abbrev μ-loop : tie.MeasureT-loop
 μ-loop block line₀ held out₀ at frame₀ held₀ at₀ taken₀ line out frame held′ at′ taken = length block - taken
@@ -74,7 +59,7 @@ loop-holds c =
     let a = start c .args in
     let size = c .before .held-in-arg2 .given .0 in
     let line = ap (λ (k : ℕ). take k (a .line .now)) (c .held-in .ensures) ∙ take-held (a .held) (a .line .now) in
-    let same = ap (λ (l : List ℕ). leaving (length (a .block .now)) (a .out .now) (a .at) (feeding (length (a .out .now) - a .at) l (a .block .now))) (sym line) in
+    let same = ap (λ (l : List ℕ). restInto (length (a .block .now)) l (a .block .now) (a .out .now) (a .at)) (sym line) in
     (omega arith, omega (arith, c .held-in .ensures), size, refl, same)
 
 has-room-requires : tie.Need-has-room-requires Inv-loop μ-loop
@@ -88,8 +73,8 @@ returns c =
     let l = at-loop (c .before) .loop in
     let block = call (at-loop (c .before)) .args .block .now in
     let full = sym (c .before .has-room .ensures) ∙ not-true _ (c .if1 .taken) in
-    stops block (l .line) (l .out) (l .taken) (l .held) (l .at) (l .inv .0) (omega arith)
-    ∙ ap (leaving (length block) (l .out) (l .at)) (sym (fed-full (length (l .out) - l .at) (take (l .held) (l .line)) (drop (l .taken) block) full))
+    stops-at block (l .line) (l .out) tt (l .taken) (l .held) (l .at) (l .inv .0) (omega arith)
+    ∙ ap (leaving (length block) (l .out) (l .at)) (sym (fed-full lister (length (l .out) - l .at) tt (take (l .held) (l .line)) (drop (l .taken) block) full))
     ∙ sym (l .inv .4)
 
 sub-feed-line : tie.Need-sub-feed-line Inv-loop μ-loop
@@ -140,7 +125,7 @@ loop-again c =
       d .feed-line .kept .1 .1 .1 .1 .0 ∙ l .inv .3,
       l .inv .4
           ∙ f .same (length block)
-          ∙ ap (λ (b : List ℕ). leaving (length block) out (r .at) (feeding (length out - r .at) (take (r .held) (d .feed-line .last .1 .0)) b)) (drop-drop (r .taken) (l .taken) block),
+          ∙ ap (λ (b : List ℕ). restInto (length block) (take (r .held) (d .feed-line .last .1 .0)) b out (r .at)) (drop-drop (r .taken) (l .taken) block),
     )
 
 same-length-2 : tie.Need-same-length-2 Inv-loop μ-loop
@@ -151,7 +136,7 @@ returns-2 c =
     let l = c .before .loop in
     let block = call (c .before) .args .block .now in
     let none : drop (l .taken) block ≡ [] = drop-of-length-le block {i = l .taken} (c .loop-test .left) in
-    stops block (l .line) (l .out) (l .taken) (l .held) (l .at) (l .inv .0) (omega arith) ∙ rw none (sym (rw none at (l .inv .4)))
+    stops-at block (l .line) (l .out) tt (l .taken) (l .held) (l .at) (l .inv .0) (omega arith) ∙ rw none (sym (rw none at (l .inv .4)))
 
 pub feed-spec : {M : Type 1} → statement M
 feed-spec =

@@ -1,41 +1,39 @@
 -- `feed_line`: a line feed ends the unfinished line and what stands before it, which are answered; a block without one is held.
 -- Assumes nothing.
 use Prim.Native.Nat.{ℕ, _+_, _-_, _≤_, _<_}
-use native.Mathlib.Numerals.{add-one}
 use native.Mathlib.Omega.{arith}
 use mathlib.Core.Bool.{true}
-use mathlib.Core.List.{List, [], _∷_, _++_, append-nil}
-use mathlib.Core.Path.{_≡_, refl, sym, _∙_, ap, ap₂}
-use lib.ListN.{length, take, drop, length-take, drop-of-length-le}
-use lib.Seq.{length-take-le, take-all, split-at}
+use mathlib.Core.List.{List, _++_}
+use mathlib.Core.Path.{_≡_, refl, sym, _∙_, ap}
+use lib.ListN.{length, take, length-take}
+use lib.Seq.{length-take-le, take-all}
 use borrow.Author.Needs.{needs}
 use borrow.Author.Tests.{le-leb}
-use Rattle.lister_text.specs.Texts.{lineFeed, unended, LineEnd}
-use Rattle.lister_answers.specs.Answers.{lineOf, mostText, roomy, answerIn}
 use Rattle.basics.specs.Laid.{Room, Laid}
-use Rattle.lister_lines.specs.Feeding.{mostHeld, kept, feeding, leaving, Onward}
-use Rattle.lister_lines.proofs.Feeds.{fed-plain, fed-line, leaving-saying}
-use Rattle.lister_lines.proofs.Kept.{line-kept}
-use Rattle.basics.proofs.Laying.{laid-length}
+use Rattle.lister_text.specs.Texts.{LineEnd}
+use Rattle.program_lines.specs.Feeding.{mostHeld, kept}
+use Rattle.program_lines.proofs.Feeds.{holds-on, answers-on}
+use Rattle.lister_answers.specs.Answers.{lineOf, mostText, roomy, answerIn}
+use Rattle.lister_lines.specs.Listing.{lister}
+use Rattle.lister_lines.specs.Feeding.{Onward}
+use Rattle.lister_lines.proofs.Kept.{line-kept, line-tells}
 use Rattle.lister_lines.proofs.feed_line.Statement.{statement}
 use Rattle.lister_lines.proofs.feed_line.Tie as tie
 
-module _ (block line out : List ℕ) (held at end : ℕ) (ends : LineEnd block end) (few : held ≤ mostHeld) (room : Room out at mostText) where
+module _ (block line out : List ℕ) (held at end : ℕ) (ends : LineEnd block end) (few : held ≤ mostHeld lister) (room : Room out at mostText) where
   has-room : roomy (length out - at) ≡ true
   has-room = le-leb mostText (length out - at) (omega arith)
 
-  few-held : length (take held line) ≤ mostHeld
+  few-held : length (take held line) ≤ mostHeld lister
   few-held = omega (arith, length-take held line)
 
   -- no line feed: the block is held
-  held-block : (h : ℕ) (line′ : List ℕ) → end ≡ length block → 0 < length block → take h line′ ≡ kept (take held line ++ block) → h ≤ mostHeld → length line′ ≡ length line
+  held-block : (h : ℕ) (line′ : List ℕ) → end ≡ length block → 0 < length block → take h line′ ≡ kept lister (take held line ++ block) → h ≤ mostHeld lister → length line′ ≡ length line
       → Onward block line out held at (record { taken = end; held = h; at = at }) line′ out
   held-block h line′ whole some is small size =
-      let plain : unended block ≡ true = ap unended (sym (take-all end block (omega arith))) ∙ ends .before in
-      let fed = fed-plain (length out - at) (take held line) block [] has-room few-held plain in
-      let none : drop end block ≡ [] = drop-of-length-le block {i = end} (omega arith) in
+      let all = ap (λ (b : List ℕ). kept lister (take held line ++ b)) (take-all end block (omega arith)) in
       record {
-        same = λ n. rw (none, is) (ap (λ (b : List ℕ). leaving n out at (feeding (length out - at) (take held line) b)) (sym (append-nil block)) ∙ ap (leaving n out at) fed);
+        same = λ n. rw (is ∙ sym all) (holds-on lister block (take held line) out tt at end ends few-held has-room (omega arith) n);
         some = omega arith;
         taken = omega arith;
         few = small;
@@ -45,25 +43,13 @@ module _ (block line out : List ℕ) (held at end : ℕ) (ends : LineEnd block e
   -- a line feed: the answer to the line that it ends is laid
   answered-line : (x line′ out′ : List ℕ) (at′ : ℕ) → end < length block → length line′ ≡ length line → lineOf x ≡ lineOf (take held line ++ take end block)
       → Laid out at (answerIn (length out - at) x) at′ out′ → Onward block line out held at (record { taken = end + 1; held = 0; at = at′ }) line′ out′
-  answered-line x line′ out′ at′ inside size is laid =
-      let t = lineOf (take held line ++ take end block) in
-      let rest = drop (end + 1) block in
-      let cut : block ≡ take end block ++ (lineFeed ∷ rest)
-      = split-at block end 0 inside ∙ ap₂ (λ (c k : ℕ). take end block ++ (c ∷ drop k block)) (ends .there inside) (sym (add-one end)) in
-      let said : Laid out at t at′ out′ = rw (has-room, is) at laid in
-      let left : length out′ - at′ ≡ length out - at - length t = omega (arith, laid-length said, said .behind) in
-      let fed = fed-line (length out - at) (take held line) (take end block) rest has-room few-held (ends .before) in
-      record {
-        same = λ n.
-            ap (λ (b : List ℕ). leaving n out at (feeding (length out - at) (take held line) b)) cut
-            ∙ ap (leaving n out at) fed
-            ∙ leaving-saying n out at t (feeding (length out - at - length t) [] rest)
-            ∙ sym (ap (λ (k : ℕ). leaving n out′ at′ (feeding k [] rest)) left ∙ ap₂ (λ (o : List ℕ) (a : ℕ). leaving n o a (feeding (length out - at - length t) [] rest)) (said .buffer) (said .behind));
-        some = omega arith;
-        taken = omega arith;
-        few = omega arith;
-        size = size;
-      }
+  answered-line x line′ out′ at′ inside size is laid = record {
+    same = answers-on lister block (take held line) out tt at end ends few-held has-room line-tells tt inside refl (rw (has-room, is) at laid);
+    some = omega arith;
+    taken = omega arith;
+    few = omega arith;
+    size = size;
+  }
 
 -- ---- places of the code: a block that is held, a line that lies in the block, and a line that was held
 
@@ -111,11 +97,13 @@ returns c =
     let s = start (whole c) in
     let a = s .args in
     let h = c .hold in
+    let m = c .before .hold-arg .given .0 .1 in
     held-block (a .block .now) (a .line .now) (a .out .now) (a .held) (a .at) (e .result) (e .ensures) (s .pre .1) (s .pre .2)
-    (h .result) (h .last .1 .0) (c .before .before .if1 .taken) (s .pre .0) (h .ensures .0) (omega (arith, h .ensures .1 .0)) (h .ensures .1 .1)
+    (h .result) (h .last .1 .0) (c .before .before .if1 .taken) (s .pre .0)
+    (h .ensures .front ∙ ap (λ (n : ℕ). take n (take (a .held) (a .line .now) ++ a .block .now)) m) (omega (arith, h .ensures .within, m)) (h .kept .1 .0)
 
-add-t13 : tie.Need-add-t13
-add-t13 c = search needs
+add-t14 : tie.Need-add-t14
+add-t14 c = search needs
 
 slice-aggregate-answer : tie.Need-slice-aggregate-answer
 slice-aggregate-answer c = part-size (cut (c .before .before))
@@ -165,10 +153,11 @@ returns-3 c =
     let s = start (cut (d .before)) in
     let a = s .args in
     let said = joined c .answer2 in
-    let kept-line : f .front .result .now ≡ kept (take (a .held) (a .line .now) ++ take (e .result) (a .block .now)) = f .front .ensures ∙ h .ensures .0 in
+    let joint = take (a .held) (a .line .now) ++ take (e .result) (a .block .now) in
+    let kept-line : f .front .result .now ≡ kept lister joint = f .front .ensures ∙ h .ensures .front ∙ ap (λ (n : ℕ). take n joint) (held f .before .hold-arg3 .given .0 .1) in
     answered-line (a .block .now) (a .line .now) (a .out .now) (a .held) (a .at) (e .result) (e .ensures) (s .pre .1) (s .pre .2)
     (f .front .result .now) (h .last .1 .0) (said .last .1 .1 .0) (said .result)
-    (omega (arith, e .ensures .within, d .before .if1 .left)) (h .ensures .1 .1) (ap lineOf kept-line ∙ line-kept (take (a .held) (a .line .now) ++ take (e .result) (a .block .now)))
+    (omega (arith, e .ensures .within, d .before .if1 .left)) (h .kept .1 .0) (ap lineOf kept-line ∙ line-kept joint)
     (said .ensures .0)
 
 pub feed-line-spec : {M : Type 1} → statement M
@@ -178,7 +167,7 @@ feed-line-spec =
     line-end-requires
     hold-requires
     returns
-    add-t13
+    add-t14
     slice-aggregate-answer
     answer-requires
     same-length

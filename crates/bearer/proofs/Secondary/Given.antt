@@ -1,0 +1,147 @@
+-- Each open, and each call on a secondary that calls reach, is refused with the first number of document 01's order whose sentence holds, and
+-- accepted if none does (specs/Refusals.antt): test by test, each of which says its sentence (Sentences.antt).
+-- Assumes nothing.
+use mathlib.Core.Path.{_≡_, refl, sym, _∙_, ap, subst}
+use mathlib.Core.Bool.{Bool, true, false, not}
+use mathlib.Core.List.{List, []}
+use Prim.Native.Nat.{ℕ, _+_, _<_}
+use borrow.Author.Tests.{ltb-true, leb-false, eqb-false, not-false}
+use lib.Dec.{ltb, leb, eqb}
+use lib.ListN.{length, drop, length-map}
+use Rattle.basics.specs.Basics.{Outcome, if_then_else_, _and_, done, refused}
+use Rattle.basics.specs.Refusals.{Given}
+use Rattle.basics.proofs.Choices.{and-true}
+use Rattle.basics.proofs.Refusals.{Says, says-below, says-at-most, says-holds, says-and, says-past, given-of, given-by}
+use Rattle.circle.specs.Lengths.{isLength, modulusOf, half, pdcps}
+use Rattle.frame_layout.specs.Frames.{Written, mostRanges, statusOctets, place, writeStatus}
+use Rattle.bearer.specs.Bearer.{After, mostRuns, mostRecords}
+use Rattle.bearer.specs.Losses.{beforeBase}
+use Rattle.bearer.specs.Keeper as K
+use Rattle.bearer.specs.Keeper.{limitOf}
+use Rattle.bearer.specs.Rule.{arrival, expiry}
+use Rattle.bearer.specs.Packets.{forwardFrom, numberOf}
+use Rattle.bearer.specs.Account.{Account, runAt, listed, statusOf}
+use Rattle.bearer.specs.KeeperMeaning.{Reached, packetAt}
+use Rattle.bearer.specs.Refusals.{openRefusals, arrivalRefusals, expiryRefusals, confirmRefusals, statusRefusals, OpensGiven, CallsGiven, SecondaryGiven}
+use Rattle.bearer.proofs.Lists.Numbers.{positive, lands}
+use Rattle.bearer.proofs.Answers.Given.{says-length, says-number, call-by, one-test}
+use Rattle.bearer.proofs.Secondary.Index.{Indexed, image, imageAfter, floorI, placeI, hasI, runsAfterI, arriveI}
+use Rattle.bearer.proofs.Secondary.Image.{image-arrive-at, image-expire-below}
+use Rattle.bearer.proofs.Secondary.Follows.{Follows, follows-has}
+use Rattle.bearer.proofs.Secondary.FollowsArrival.{arrival-listed}
+use Rattle.bearer.proofs.Secondary.FollowsExpiry.{top, expiry-listed}
+use Rattle.bearer.proofs.Secondary.FollowsMeans.{follows-reach}
+use Rattle.bearer.proofs.Secondary.Accounts.{indexedOf}
+use Rattle.bearer.proofs.Secondary.KeeperMeans.{indexed, base-is}
+use Rattle.bearer.proofs.Secondary.StatusesFit.{statuses-fit}
+use Rattle.bearer.proofs.Secondary.Sentences.{says-has, says-span, says-runs, says-nothing, notToConfirm, says-confirm}
+
+-- ---- open: 7, 10
+
+open-given : {A : Type 0} (L first f : ℕ) (fresh : A)
+    → Given (openRefusals L first f) (if not (isLength L) then refused 7 else if not (ltb first (modulusOf L) and ltb f (pdcps L)) then refused 10 else done fresh)
+open-given L first f fresh =
+    given-by (not (isLength L)) 7 (drop 1 (openRefusals L first f)) _ (says-length L)
+    (λ _. given-by (not (ltb first (modulusOf L) and ltb f (pdcps L))) 10 [] _ (says-number L first f) (λ _. refl))
+
+pub opens-given : OpensGiven
+opens-given L first f = (open-given L first f _, open-given L first f _)
+
+-- ---- the calls on a state that follows its account
+
+module _ (L first : ℕ) {base : ℕ} {a : Account} (F : Follows (half L) (indexedOf base a) (a .fates) (a .told)) where
+  abbrev s : Indexed
+  s = indexedOf base a
+
+  abbrev k : K.Keeper
+  k = image L first s
+
+  -- 12, 13, 14, 15: of the packet that the number names
+  arrive-at-given : (n p : ℕ) → n < modulusOf L → forwardFrom L first base n < half L
+      → Given (drop 3 (arrivalRefusals L first a base n p)) (arriveI (half L) s p (placeI s (packetAt L first base n)) (forwardFrom L first base n) .answer)
+  arrive-at-given n p small near =
+      let rs = arrivalRefusals L first a base n p in
+      let d : ℕ = forwardFrom L first base n in
+      call-by (hasI s (base + d) (placeI s (base + d))) 12 (drop 4 rs) s _ (says-has L first F n d near (lands (modulusOf L) first (positive L) base n small))
+      (λ new. call-by (leb (half L) (floorI s + d)) 13 (drop 5 rs) s _ (says-span L first F n)
+      (λ fits. call-by (ltb mostRuns (length (runsAfterI s (limitOf d)))) 14 (drop 6 rs) s _
+      (says-runs L first F (arrival (a .fates) (base + d)) (limitOf d) (arrival-listed F d (sym (follows-has F d) ∙ new) (leb-false (half L) (floorI s + d) fits)))
+      (λ _. call-by (leb mostRecords (length (a .records))) 15 [] s _ (says-at-most mostRecords (length (a .records)))
+      (λ _. refl))))
+
+  -- 9, 10, 11, and then by its packet
+  arrive-given : (n p : ℕ) → Given (arrivalRefusals L first a base n p) (K.arrive k n p .answer)
+  arrive-given n p =
+      let rs = arrivalRefusals L first a base n p in
+      call-by (a .final) 9 (drop 1 rs) k _ (says-holds refl)
+      (λ _. call-by (not (ltb n (modulusOf L) and ltb p (pdcps L))) 10 (drop 2 rs) k _ (says-number L n p)
+      (λ numbers. call-by (beforeBase (modulusOf L) (numberOf L first base) n) 11 (drop 3 rs) k _ (says-at-most (half L) (forwardFrom L first base n))
+      (λ late. by numbers (leb-false (half L) (forwardFrom L first base n) late))))
+    where
+      d : ℕ
+      d = forwardFrom L first base n
+
+      at : n < modulusOf L → d < half L → K.arriveAt k n p (K.placeOf k d) d ≡ imageAfter L first (arriveI (half L) s p (placeI s (base + d)) d)
+      at small near =
+          ap (λ (m : ℕ). K.arriveAt k m p (K.placeOf k d) d) (sym (lands (modulusOf L) first (positive L) base n small))
+          ∙ image-arrive-at L first s (follows-reach F) d p near
+
+      by : not (ltb n (modulusOf L) and ltb p (pdcps L)) ≡ false → d < half L → Given (drop 3 (arrivalRefusals L first a base n p)) (K.arriveAt k n p (K.placeOf k d) d .answer)
+      by numbers near =
+          let small = ltb-true n (modulusOf L) (and-true (ltb n (modulusOf L)) (ltb p (pdcps L)) (not-false (ltb n (modulusOf L) and ltb p (pdcps L)) numbers) .0) in
+          subst (λ (x : After K.Keeper ℕ). Given (drop 3 (arrivalRefusals L first a base n p)) (x .answer)) (sym (at small near)) (arrive-at-given n p small near)
+
+  -- 9, 17, 14
+  expire-given : Given (expiryRefusals a) (K.expire k .answer)
+  expire-given =
+      let rs = expiryRefusals a in
+      call-by (a .final) 9 (drop 1 rs) k _ (says-holds refl)
+      (λ _. subst (λ (x : After K.Keeper ℕ). Given (drop 1 rs) (x .answer)) (sym (image-expire-below L first s (follows-reach F)))
+      (call-by (eqb (top s) 0) 17 (drop 2 rs) s _ (says-nothing L first F)
+      (λ some. call-by (ltb mostRuns (length (runsAfterI s (top s)))) 14 [] s _ (says-runs L first F (expiry (a .fates)) (top s) (expiry-listed F (eqb-false (top s) 0 some)))
+      (λ _. refl))))
+
+  -- 9, 10, 16
+  confirm-given : (n : ℕ) → Given (confirmRefusals L first a base n) (K.confirm k n .answer)
+  confirm-given n =
+      let rs = confirmRefusals L first a base n in
+      call-by (a .final) 9 (drop 1 rs) k _ (says-holds refl)
+      (λ _. call-by (not (ltb n (modulusOf L))) 10 (drop 2 rs) k _ (says-past n (modulusOf L))
+      (λ _. subst (λ (x : After K.Keeper Unit). Given (drop 2 rs) (x .answer)) (sym (one-test (leb (length (K.held k)) (K.indexOf n (K.held k))) _ _ _))
+      (call-by (notToConfirm L first F n) 16 [] k _ (says-confirm L first F n)
+      (λ _. refl))))
+
+  -- 9, 22, 20, where the writer refuses for want of room alone
+  status-given : (d m : ℕ) (final : Bool) (buffer : List ℕ) → writeStatus (K.statusNow k d m final) buffer ≡ place (statusOctets (statusOf L first a d m final)) buffer
+      → Given (statusRefusals L first a d m final buffer) (K.status k d m final buffer .answer)
+  status-given d m final buffer fits =
+      let rs = statusRefusals L first a d m final buffer in
+      let answer : K.Reported → Outcome ℕ = λ x. x .answer in
+      given-of answer (a .final) 9 (drop 1 rs) (K.unreported 9 k buffer) _ (says-holds refl) refl
+      (λ _. given-of answer (final and ltb mostRanges (length (k .runs))) 22 (drop 2 rs) (K.unreported 22 k buffer) _ runs-over refl
+      (λ _. subst (λ (x : Written). Given (drop 2 rs) (x .answer)) (sym fits)
+      (given-of (λ (x : Written). x .answer) (ltb (length buffer) (length (statusOctets (statusOf L first a d m final)))) 20 [] _ _ (says-below (length buffer) _) refl
+      (λ _. refl))))
+    where
+      runs-over : Says (final and ltb mostRanges (length (k .runs))) ((final ≡ true) × (162 < length (listed a)))
+      runs-over =
+          rw (length-map (listed a) (runAt L first)) (says-and (says-holds refl) (says-below mostRanges (length (listed a))))
+
+-- ---- the calls on a state that calls reach
+
+calls-given : {L first f : ℕ} {k : K.Keeper} {a : Account} (x : Reached L first f k a) → CallsGiven L first k a (indexed L first f x .base)
+calls-given {L} {first} {f} {k} {a} x =
+    let i = indexed L first f x in
+    let back = sym (i .state-is) in
+    record {
+      arrivals = λ n p. subst (λ (y : K.Keeper). Given (arrivalRefusals L first a (i .base) n p) (K.arrive y n p .answer)) back (arrive-given L first (i .follows) n p);
+      expiries = subst (λ (y : K.Keeper). Given (expiryRefusals a) (K.expire y .answer)) back (expire-given L first (i .follows));
+      confirms = λ n. subst (λ (y : K.Keeper). Given (confirmRefusals L first a (i .base) n) (K.confirm y n .answer)) back (confirm-given L first (i .follows) n);
+      statuses = λ d m final buffer.
+          subst (λ (y : K.Keeper). Given (statusRefusals L first a d m final buffer) (K.status y d m final buffer .answer)) back
+          (status-given L first (i .follows) d m final buffer
+          (ap (λ (y : K.Keeper). writeStatus (K.statusNow y d m final) buffer) back ∙ statuses-fit L first f x d m final buffer));
+    }
+
+pub secondary-given : SecondaryGiven
+secondary-given L first f k a x base low = subst (CallsGiven L first k a) (base-is (indexed L first f x) base low) (calls-given x)
