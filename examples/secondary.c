@@ -1,8 +1,7 @@
-/* The secondary's end from C: document 01's bench sheet, played through x2u.h. Each line says what was done and what came of
- * it; the exit status is 0 if every outcome is document 01's.
+/* The secondary's end from C: document 01's bench sheet, and a block that was never opened, played through x2u.h. Each line says what was
+ * done and what came of it; the exit status is 0 if every outcome is the one wanted.
  *
- *     scripts/archive.sh
- *     gcc -Iinclude examples/secondary.c target/libx2u.a -o secondary && ./secondary */
+ *     gcc -Iinclude examples/secondary.c "$(scripts/archive.sh)" -o secondary && ./secondary */
 #include <stdio.h>
 #include <string.h>
 
@@ -10,18 +9,18 @@
 
 static int wrong;
 
-/* An answer, and what document 01 says. */
+/* An answer, and the one wanted. */
 static void outcome(const char *what, int64_t got, int64_t wanted)
 {
     if (got == wanted) {
         printf("PASS  %s: %lld\n", what, (long long)got);
     } else {
-        printf("FAIL  %s: %lld, and document 01 says %lld\n", what, (long long)got, (long long)wanted);
+        printf("FAIL  %s: %lld, wanted %lld\n", what, (long long)got, (long long)wanted);
         wrong = 1;
     }
 }
 
-/* Octets, and what document 01 says, in hexadecimal. */
+/* Octets, and those wanted, in hexadecimal. */
 static void octets(const char *what, const uint8_t *frame, int64_t length, const char *wanted)
 {
     char text[2 * X2U_MOST_OCTETS + 1] = "";
@@ -29,7 +28,7 @@ static void octets(const char *what, const uint8_t *frame, int64_t length, const
     if (strcmp(text, wanted) == 0) {
         printf("PASS  %s: %s\n", what, text);
     } else {
-        printf("FAIL  %s: %s, and document 01 says %s\n", what, text, wanted);
+        printf("FAIL  %s: %s, wanted %s\n", what, text, wanted);
         wrong = 1;
     }
 }
@@ -37,14 +36,15 @@ static void octets(const char *what, const uint8_t *frame, int64_t length, const
 /* Frames written, each type. */
 static void writing(void)
 {
+    static const x2u_fields one = {.highest = 120, .desired = 65536, .minimum = 4096, .ranges = 1};
+    static const x2u_fields none = {.highest = 262143, .final = 1};
     uint8_t buffer[X2U_MOST_OCTETS];
     uint32_t start = 7, end = 9;
     octets("write type 0, 4660", buffer, x2u_write_data(0, 4660, buffer, sizeof buffer), "001234000000");
     octets("write type 3, 43981", buffer, x2u_write_data(1, 43981, buffer, sizeof buffer), "3000abcd0000");
-    octets("write type 1, range 7 to 9", buffer,
-           x2u_write_status(0, 0, 120, 65536, 4096, &start, 1, &end, 1, buffer, sizeof buffer),
+    octets("write type 1, range 7 to 9", buffer, x2u_write_status(0, &one, &start, &end, buffer, sizeof buffer),
            "110078000100000000100001000700090000");
-    octets("write type 2, Final, no list", buffer, x2u_write_status(1, 1, 262143, 0, 0, NULL, 0, NULL, 0, buffer, sizeof buffer),
+    octets("write type 2, Final, no list", buffer, x2u_write_status(1, &none, NULL, NULL, buffer, sizeof buffer),
            "2203ffff00000000000000000000");
 }
 
@@ -52,20 +52,36 @@ static void writing(void)
 static void reading(void)
 {
     static const uint8_t reserved[6] = {0x40, 1, 2, 3, 4, 5}, status[18] = {0x11}, one[14] = {[0] = 0x11, [11] = 1};
-    static const uint8_t brief[10] = {0x10};
-    uint32_t fields[X2U_FIELDS];
-    outcome("read no octets", x2u_read(NULL, 0, fields), -X2U_LENGTH);
-    outcome("read 8 octets", x2u_read(status, 8, fields), -X2U_LENGTH);
-    outcome("read 40 and five more octets", x2u_read(reserved, sizeof reserved, fields), -X2U_RESERVED);
-    outcome("read type 1, length 10", x2u_read(brief, sizeof brief, fields), -X2U_FIXED_PART);
-    outcome("read type 1, length 14, count 1", x2u_read(one, sizeof one, fields), -X2U_LIST);
-    outcome("read type 1, length 18, count 0", x2u_read(status, sizeof status, fields), -X2U_COUNT);
+    static const uint8_t brief[10] = {0x10}, data[6] = {0x00, 0x12, 0x34};
+    x2u_fields fields;
+    outcome("read type 0", x2u_read(data, sizeof data, &fields), 0);
+    outcome("  its number", fields.number, 4660);
+    outcome("read no octets", x2u_read(NULL, 0, &fields), -X2U_LENGTH);
+    outcome("read 8 octets", x2u_read(status, 8, &fields), -X2U_LENGTH);
+    outcome("read 40 and five more octets", x2u_read(reserved, sizeof reserved, &fields), -X2U_RESERVED);
+    outcome("read type 1, length 10", x2u_read(brief, sizeof brief, &fields), -X2U_FIXED_PART);
+    outcome("read type 1, length 14, count 1", x2u_read(one, sizeof one, &fields), -X2U_LIST);
+    outcome("read type 1, length 18, count 0", x2u_read(status, sizeof status, &fields), -X2U_COUNT);
+}
+
+/* A block that was never opened is a closed end, and a refused open leaves it one. */
+static void unopened(void)
+{
+    x2u_keeper k = X2U_KEEPER_INIT;
+    uint8_t frame[X2U_MOST_OCTETS];
+    outcome("arrival before any open", x2u_arrive(&k, 0, 0), -X2U_CLOSED);
+    outcome("expiry before any open", x2u_expire(&k), -X2U_CLOSED);
+    outcome("confirm before any open", x2u_confirm(&k, 0), -X2U_CLOSED);
+    outcome("open L 13", x2u_open(&k, 13, 0, 0), -X2U_PDCP_LENGTH);
+    outcome("status after a refused open", x2u_status(&k, 0, 0, 0, frame, sizeof frame), -X2U_CLOSED);
+    outcome("open L 12", x2u_open(&k, 12, 0, 0), 0);
+    outcome("arrival then: lost", x2u_arrive(&k, 0, 0), 0);
 }
 
 /* What an arrival far above base gives up. */
 static void window(void)
 {
-    x2u_keeper k;
+    x2u_keeper k = X2U_KEEPER_INIT;
     outcome("open, short, first 0", x2u_open(&k, 12, 0, 0), 0);
     outcome("arrival of 255: lost", x2u_arrive(&k, 255, 0), 0);
     x2u_open(&k, 12, 0, 0);
@@ -80,24 +96,27 @@ static void window(void)
 /* A status with one range, as it is read: its highest and its range. */
 static void one_range(const char *what, const uint8_t *frame, int64_t length, uint32_t highest, uint32_t start, uint32_t end)
 {
-    uint32_t fields[X2U_FIELDS] = {0}, cursor[X2U_CURSOR] = {0}, range[X2U_RANGE] = {0};
+    x2u_fields fields = {0};
+    x2u_cursor cursor = {{0}};
+    x2u_range range = {0};
     printf("      %s\n", what);
-    outcome("  its type", x2u_read(frame, (size_t)length, fields), 1);
-    outcome("  its highest", fields[0], highest);
-    outcome("  its desired size", fields[1], 65536);
-    outcome("  its minimum size", fields[2], 4096);
-    outcome("  Final", fields[3], 0);
-    outcome("  its ranges", x2u_first_range(frame, (size_t)length, cursor), 1);
-    outcome("  there is a first", x2u_next_range(frame, (size_t)length, cursor, range), 1);
-    outcome("  its start", range[0], start);
-    outcome("  its end", range[1], end);
-    outcome("  there is another", x2u_next_range(frame, (size_t)length, cursor, range), 0);
+    outcome("  its type", x2u_read(frame, (size_t)length, &fields), 1);
+    outcome("  its highest", fields.highest, highest);
+    outcome("  its desired size", fields.desired, 65536);
+    outcome("  its minimum size", fields.minimum, 4096);
+    outcome("  Final", fields.final, 0);
+    outcome("  its ranges", fields.ranges, 1);
+    outcome("  and by the cursor", x2u_first_range(frame, (size_t)length, &cursor), 1);
+    outcome("  there is a first", x2u_next_range(frame, (size_t)length, &cursor, &range), 1);
+    outcome("  its start", range.start, start);
+    outcome("  its end", range.end, end);
+    outcome("  there is another", x2u_next_range(frame, (size_t)length, &cursor, &range), 0);
 }
 
 /* L 12, first 65534, f 4095: a loss at the rollover. */
 static void rollover(void)
 {
-    x2u_keeper k, both;
+    x2u_keeper k = X2U_KEEPER_INIT, both;
     uint8_t frame[X2U_MOST_OCTETS];
     int64_t length;
     outcome("open L 12, first 65534, f 4095", x2u_open(&k, 12, 65534, 4095), 0);
@@ -118,9 +137,11 @@ static void rollover(void)
 /* Every second number is lost, 163 in all, and the frame carries 162 of them. */
 static void held_back(void)
 {
-    x2u_keeper k;
+    x2u_keeper k = X2U_KEEPER_INIT;
     uint8_t frame[X2U_MOST_OCTETS];
-    uint32_t fields[X2U_FIELDS] = {0}, cursor[X2U_CURSOR] = {0}, range[X2U_RANGE] = {0};
+    x2u_fields fields = {0};
+    x2u_cursor cursor = {{0}};
+    x2u_range range = {0};
     int64_t lost = 0, length, count = 0, apart = 0;
     outcome("open L 12, first 0, f 0", x2u_open(&k, 12, 0, 0), 0);
     for (uint32_t n = 1; n <= 325; n += 2) lost += x2u_arrive(&k, n, n);
@@ -132,11 +153,11 @@ static void held_back(void)
     outcome("status into 661 octets", x2u_status(&k, 0, 0, 0, frame, 661), -X2U_ROOM);
     length = x2u_status(&k, 0, 0, 0, frame, sizeof frame);
     outcome("status: octets", length, 662);
-    outcome("its type", x2u_read(frame, (size_t)length, fields), 1);
-    outcome("its highest, held back before 324", fields[0], 323);
-    outcome("its ranges", x2u_first_range(frame, (size_t)length, cursor), 162);
-    for (count = 0; x2u_next_range(frame, (size_t)length, cursor, range) == 1; count++)
-        apart += range[0] == 2 * count && range[1] == 2 * count;
+    outcome("its type", x2u_read(frame, (size_t)length, &fields), 1);
+    outcome("its highest, held back before 324", fields.highest, 323);
+    outcome("its ranges", x2u_first_range(frame, (size_t)length, &cursor), 162);
+    for (count = 0; x2u_next_range(frame, (size_t)length, &cursor, &range) == 1; count++)
+        apart += range.start == 2 * count && range.end == 2 * count;
     outcome("ranges walked", count, 162);
     outcome("of these 0 to 0, 2 to 2, .. 322 to 322", apart, 162);
 
@@ -151,9 +172,10 @@ int main(void)
 {
     writing();
     reading();
+    unopened();
     window();
     rollover();
     held_back();
-    puts(wrong ? "An outcome is not document 01's." : "Every outcome is document 01's.");
+    puts(wrong ? "An outcome is not the one wanted." : "Every outcome is the one wanted.");
     return wrong;
 }

@@ -15,5 +15,5 @@ $programs/compare replay $programs/replay "$replay"
 $programs/compare lister $programs/lister "$lister"
 for bits in 12 15 18; do
     $programs/ramp "$replay" --bits $bits \
-        --report target/ramp-$bits.txt --chart target/ramp-$bits.svg
+        --report target/ramp-$bits.txt --chart target/ramp-$bits.svg --force
 done

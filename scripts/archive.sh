@@ -1,37 +1,39 @@
 #!/usr/bin/env bash
-# archive.sh [native]: the one archive that a program in C links, target/libx2u.a. Proves and builds the crates c_calls and c_frames
-# by rt, joins their objects, checks the whole, and prints its path. What it makes is for x86-64; with `native` it joins what
-# native.sh makes for this machine's own processor, as target/native/libx2u.a. The first time takes minutes; with nothing changed
-# nothing is proved or built again.
+# archive.sh [TARGET]: the one archive that a program in C links, for a processor. Prints its path, as its only standard output.
+#
+# TARGET is one of these; without it, or as `native`, it is this machine's own:
+#   x86-64    target/x86-64/libx2u.a, of the kit's own objects: the shipped build
+#   aarch64   target/aarch64/libx2u.a, of the same code compiled for 64-bit Arm
+# So on either   gcc -Iinclude examples/secondary.c "$(scripts/archive.sh)" -o secondary && ./secondary
+#
+# It proves the crates c_calls and c_frames by rt, joins their objects and checks the whole. The first time takes about 5 minutes; with
+# nothing changed a second, and nothing is proved or built again. Says on standard error what it is doing.
+# Exit status: 0 built, 1 not proved or not built, 2 a wrong call.
 set -eu
-cd "$(dirname "$0")/.."
-case ${1-} in
-'') out=$PWD/target ;;
-native) out=$PWD/target/native ;;
-*) echo "usage: archive.sh [native]" >&2; exit 2 ;;
-esac
-# The kit's ar, since it makes an index of any processor's objects
-ar=$(dirname "$(dirname "$(rt doc)")")/on/$(uname -m)/toolchain/bin/llvm-ar
+. "$(dirname "$(readlink -f "$0")")/help.sh"
+help_asked "$@"
+cd "$(dirname "$(readlink -f "$0")")/.."
+. scripts/target.sh
+[ $# -le 1 ] || refuse "takes one target"
+target=$(target_named "${1-native}")
+. scripts/kit.sh
+out=$PWD/target/$target/libx2u.a
 work=$(mktemp -d)
 trap 'rm -rf "$work"' EXIT
 broken() { echo "archive.sh: $1" >&2; exit 1; }
 
-# Each object is named for its crate and its place there, so no two in the whole have one name
-objects=()
-for name in c_calls c_frames; do
-  scripts/native.sh $name >&2
-  part=$out/staticlib/lib$name.a
-  mkdir "$work/$name"
-  (cd "$work/$name" && "$ar" x "$part")
-  n=0
-  for o in "$work/$name"/*; do
-    n=$((n + 1))
-    mv "$o" "$work/$name-$n.o"
-    objects+=("$work/$name-$n.o")
-  done
-  [ "$n" = "$("$ar" t "$part" | wc -l)" ] || broken "two objects of $part have one name"
-done
-"$ar" rcsD "$work/libx2u.a" "${objects[@]}"
+# objects_of CRATE: its objects, each named for its crate and its place there, so no two in the whole have one name
+objects_of() {
+  local part o n=0
+  part=$(scripts/native.sh "$1" "$target")
+  mkdir "$work/$1"
+  (cd "$work/$1" && "$tools/bin/llvm-ar" x "$part")
+  for o in "$work/$1"/*; do n=$((n + 1)) && mv "$o" "$work/$1-$n.o"; done
+  [ "$n" = "$("$tools/bin/llvm-ar" t "$part" | wc -l)" ] || broken "two objects of $part have one name"
+}
+objects_of c_calls
+objects_of c_frames
+"$tools/bin/llvm-ar" rcsD "$work/libx2u.a" "$work"/*.o # the kit's, since it makes an index of any processor's objects
 
 # It defines each function of the header once and no other global symbol, and needs none from elsewhere
 sed -n 's/^int64_t \(x2u_[a-z_]*\)(.*/\1/p' include/x2u.h | LC_ALL=C sort >"$work/header"
@@ -41,5 +43,5 @@ nm -u "$work/libx2u.a" | sed -n 's/^ *[A-Za-z] //p' >"$work/undefined"
 diff "$work/header" "$work/defined" >&2 || broken "the header's functions (<) and the archive's global symbols (>) are not the same"
 [ ! -s "$work/undefined" ] || broken "the archive leaves undefined: $(tr '\n' ' ' <"$work/undefined")"
 
-cmp -s "$work/libx2u.a" "$out/libx2u.a" || mv "$work/libx2u.a" "$out/libx2u.a"
-echo "$out/libx2u.a"
+cmp -s "$work/libx2u.a" "$out" || mv "$work/libx2u.a" "$out"
+echo "$out"

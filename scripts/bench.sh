@@ -1,13 +1,20 @@
 #!/usr/bin/env bash
-# Measures the product and the independent Rust implementation side by side and writes the tables into docs/PERFORMANCE.md,
-# between its two marks: times by criterion, instructions by valgrind's callgrind, the listers as whole programs in turn. The
-# product is built for this machine's own processor. Takes about 10 minutes; leave the machine alone meanwhile.
+# bench.sh: measures the product and the independent Rust implementation side by side, and prints the tables.
+#
+# Times by criterion, instructions by valgrind's callgrind, the listers as whole programs in turn; the product is built for this
+# machine's own processor. It writes the tables into docs/PERFORMANCE.md, between its two marks, and leaves its figures in target/bench.
+# Takes about 10 minutes once all is built; leave the machine alone meanwhile.
+# Exit status: 0 measured, 1 or more something failed, 2 a wrong call too.
 set -eu
-cd "$(dirname "$0")/.."
+. "$(dirname "$(readlink -f "$0")")/help.sh"
+help_asked "$@"
+takes_nothing "$@"
+cd "$(dirname "$(readlink -f "$0")")/.."
+. scripts/kit.sh
 scripts/setup.sh
 command -v valgrind >/dev/null || $([ "$(id -u)" = 0 ] || echo sudo) apt-get install -y -qq valgrind >&2
-scripts/archive.sh native >/dev/null
-for name in ledger_probe lister; do scripts/native.sh $name; done
+scripts/archive.sh >/dev/null
+for name in ledger_probe lister; do scripts/native.sh $name >/dev/null; done
 out=$PWD/target/bench
 mkdir -p "$out"
 export X2U_ARCHIVES=$PWD/target/native
@@ -44,7 +51,7 @@ $programs/race "$out/frames.txt" $programs/lister target/native/lister | tee "$o
 
 {
   echo "Machine: $(uname -m), $(lscpu | sed -n 's/^Model name: *//p'), $(nproc) processors; load $(cut -d' ' -f1 /proc/loadavg) at the end."
-  echo "Compilers: $(rustc --version | cut -d' ' -f1,2), $(head -n 1 "$(dirname "$(dirname "$(rt doc)")")/KIT-ID" | cut -d' ' -f1)."
+  echo "Compilers: $(rustc --version | cut -d' ' -f1,2), $(head -n 1 "$kit/KIT-ID" | cut -d' ' -f1)."
   echo "Undefined symbols of the archive of codec and keeper, among which an allocator would be: $(nm -u target/native/libx2u.a | grep -c ' U ' || true)."
   echo
   $programs/tables "$out/rounds" "$out/counts.tsv" "$out/lister.tsv"

@@ -1,7 +1,13 @@
 #!/usr/bin/env bash
-# Installs what the project needs from Debian's packages, where it is missing. The Rattle kit, gcc, cargo and rustc are
-# taken to be there.
+# setup.sh: installs what the project needs from Debian's packages, where it is missing; with sudo where it isn't root's.
+#
+# The Rattle kit, gcc, cargo and rustc are taken to be there. Takes a minute where something is missing, else no time. All other
+# scripts that need it call it.
+# Exit status: 0 all is there, 1 or more apt-get or sudo failed, 2 a wrong call too.
 set -eu
+. "$(dirname "$(readlink -f "$0")")/help.sh"
+help_asked "$@"
+takes_nothing "$@"
 needed=(librust-proptest-dev librust-criterion-dev g++)
 # The archive for C is x86-64's: elsewhere its tests are compiled across, and run under the kit's emulator.
 [ "$(uname -m)" = x86_64 ] || needed+=(gcc-x86-64-linux-gnu libc6-dev-amd64-cross)

@@ -1,9 +1,15 @@
 #!/usr/bin/env bash
-# Sets up and runs every test there is: each suite ends in a line 'N passed, M failed', and so does the whole. Suites run side by side
-# where they need nothing of each other; what one printed comes whole, once it ended. All of it stays in target/test.log, of which
-# scripts/times.sh makes the table of times.
+# test.sh: sets up and runs every test there is. Each suite ends in a line 'N passed, M failed', and so does the whole.
+#
+# First all proofs, from nothing, and the wrong versions that the prover must refuse (rt ci, which takes target/ away); then each
+# tests/*.sh. Suites run side by side where they need nothing of each other; what one printed comes whole, once it ended. Takes about
+# half an hour on two processors. All that was printed stays in target/test.log, of which scripts/times.sh makes the table of times.
+# Exit status: 0 all passed, 1 something failed, 2 a wrong call.
 set -u
-cd "$(dirname "$0")/.."
+. "$(dirname "$(readlink -f "$0")")/help.sh"
+help_asked "$@"
+takes_nothing "$@"
+cd "$(dirname "$(readlink -f "$0")")/.."
 exec 9<scripts/test.sh
 flock -n 9 || { echo "test.sh: the tests are running in this folder already"; echo "0 passed, 1 failed"; exit 1; }
 work=$(mktemp -d)

@@ -12,7 +12,7 @@ trap 'rm -rf "$work"' EXIT
 play() {
   sed -e 's/ = .*//' -e 's/ /\t/g' "$work/calls" >"$work/in"
   sed -e 's/.* = //' -e 's/ /\t/g' "$work/calls" >"$work/wanted"
-  ${REPLAY:-scripts/run.sh replay} <"$work/in" >"$work/out"
+  ${REPLAY:-scripts/replay} <"$work/in" >"$work/out"
   if [ -s "$work/in" ] && cmp -s "$work/wanted" "$work/out"; then
     passed=$((passed + 1))
   else

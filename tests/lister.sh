@@ -16,7 +16,7 @@ is() {
   fi
 }
 
-lister() { scripts/run.sh lister; }
+lister() { scripts/lister; }
 
 [ -x target/bin/lister ] || rt check lister >/dev/null
 

@@ -31,7 +31,7 @@ told (status-of s) = by (s .long)
 told (refuse n) = refl
 
 -- the count in a status's head is how many ranges it has
-pub status-fields : (s old : List ℕ) (h : Head) → h .highest ∷ h .desired ∷ h .minimum ∷ bit (h .last) ∷ h .count ∷ 0 ∷ [] ≡ fieldsOf old (readingOf s (read.Status h))
+pub status-fields : (s old : List ℕ) (h : Head) → 0 ∷ h .highest ∷ h .desired ∷ h .minimum ∷ bit (h .last) ∷ h .count ∷ [] ≡ fieldsOf old (readingOf s (read.Status h))
 status-fields s old h = rw (length-rangesAt s (width (h .long)) (listAt (width (h .long))) (h .count))
 
 -- the cursor before a status's first range, by its type
@@ -40,7 +40,7 @@ first-is true st e = rw e
 first-is false st e = rw e
 
 -- by what a look tells, the ranges of a status are there
-pub listed : (s old : List ℕ) (r : Reading) → readFrame s ≡ r → isStatus (kindOf r) ≡ true → there s (firstOf (kindOf r) (getD (fieldsOf old r) 4 0)) ≡ rangesIn r
+pub listed : (s old : List ℕ) (r : Reading) → readFrame s ≡ r → isStatus (kindOf r) ≡ true → there s (firstOf (kindOf r) (getD (fieldsOf old r) 5 0)) ≡ rangesIn r
 listed s old (data-of true n) e t = apart (cc)
 listed s old (data-of false n) e t = apart (cc)
 listed s old (status-of st) e t =
@@ -83,7 +83,7 @@ module _ (old : List ℕ) where
   begins-data (refuse n) h t = absurd (omega arith)
 
   -- of a status
-  pub begins-status : (zeros : List ℕ) (r : Reading) → isStatus (kindOf r) ≡ true → (c : Cursor) → c ≡ firstOf (kindOf r) (getD (fieldsOf zeros r) 4 0) → leaves (pos (c .left)) (wordsOf c) ≡ begins old r
+  pub begins-status : (zeros : List ℕ) (r : Reading) → isStatus (kindOf r) ≡ true → (c : Cursor) → c ≡ firstOf (kindOf r) (getD (fieldsOf zeros r) 5 0) → leaves (pos (c .left)) (wordsOf c) ≡ begins old r
   begins-status zeros (data-of true n) t c e = apart (cc)
   begins-status zeros (data-of false n) t c e = apart (cc)
   begins-status zeros (status-of st) t c e = rw (e ∙ first-is (st .long) st refl)

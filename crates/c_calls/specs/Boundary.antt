@@ -75,11 +75,11 @@ typeOf (refuse n) = minus n
 abbrev pub fieldCount : ℕ
 fieldCount = 6
 
--- the fields in place of what was there: of data the number, of a status the highest PDCP number, desired size, minimum size,
--- Final and how many ranges. A refusal leaves what was there.
+-- the fields in place of what was there, each in a place of its own: the number of data, and of a status the highest PDCP number,
+-- desired size, minimum size, Final and how many ranges. One that the frame hasn't is 0. A refusal leaves what was there.
 abbrev pub fieldsOf : List ℕ → Reading → List ℕ
 fieldsOf old (data-of long n) = n ∷ 0 ∷ 0 ∷ 0 ∷ 0 ∷ 0 ∷ []
-fieldsOf old (status-of s) = s .highest ∷ s .desired ∷ s .minimum ∷ bit (s .final) ∷ length (s .ranges) ∷ 0 ∷ []
+fieldsOf old (status-of s) = 0 ∷ s .highest ∷ s .desired ∷ s .minimum ∷ bit (s .final) ∷ length (s .ranges) ∷ []
 fieldsOf old (refuse n) = old
 
 -- the ranges of a status

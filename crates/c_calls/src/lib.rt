@@ -16,7 +16,9 @@ ghost use Rattle.keeper.specs.Plain.{Plain};
 ghost use Rattle.c_calls.specs.Boundary.{minus, mostAnswer, fieldCount, cursorCount, leaves, counts, settles, reports, fieldsOf, reads, cursorIn, begins, stepIn, steps};
 ghost use Rattle.c_calls.specs.Looks.{kindOf, refusalOf, answerTo, isStatus, firstOf};
 
-const FIELDS: usize = 6; // the fields of a frame, as numbers
+const FIELDS: usize = 6; // the fields of a frame, as numbers: number, highest, desired, minimum, final, ranges
+
+pub const RANGES: usize = 5; // where the count of ranges stands among them
 
 const CURSOR: usize = 3; // the words of a cursor
 
@@ -48,7 +50,7 @@ pub fn look(frame: &[u8], fields: &mut FieldArray) -> Seen
 {
     match frame_reader::read(frame) {
         frame_reader::Frame::Data { long, number } => {
-            put_fields(fields, number, 0, 0, 0, 0);
+            put_fields(fields, number, 0, 0, 0, 0, 0);
             Seen {
                 kind: frame_layout::data_type(long) as u32,
                 refusal: 0,
@@ -57,6 +59,7 @@ pub fn look(frame: &[u8], fields: &mut FieldArray) -> Seen
         frame_reader::Frame::Status(head) => {
             put_fields(
                 fields,
+                0,
                 head.highest,
                 head.desired,
                 head.minimum,
@@ -107,8 +110,8 @@ pub fn first_of(kind: u32, count: u32) -> frame_reader::Cursor
     }
 }
 
-// Reads a frame: its type, 0 to 3. Of data the first field is the number; of a status they are the highest PDCP number,
-// the desired size, the minimum size, Final as 0 or 1, and how many ranges. Every other field is 0.
+// Reads a frame: its type, 0 to 3. The fields are the X2-U number of data, and of a status the highest PDCP number, the desired
+// size, the minimum size, Final as 0 or 1, and how many ranges, each in a place of its own; a field that the frame hasn't is 0.
 #[no_mangle]
 pub extern "C" fn x2u_read(frame: &[u8], fields: &mut FieldArray) -> i64
     ensures { λ r. ⌜ leaves r (now (fields .exit)) ≡ reads (now (fields .entry)) (readFrame (now (frame .entry))) ⌝ }
@@ -131,7 +134,7 @@ pub extern "C" fn x2u_first_range(frame: &[u8], cursor: &mut CursorArray) -> i64
         put_cursor(cursor, 0, 0, 0);
         return 0;
     }
-    let at = first_of(seen.kind, fields[4]);
+    let at = first_of(seen.kind, fields[RANGES]);
     put_cursor(cursor, basics::flag(at.long), at.place as u32, at.left);
     value(at.left)
 }
@@ -340,17 +343,25 @@ pub fn octets(n: usize) -> i64
 
 // ---- words
 
-// All six fields are written; the last is kept for later.
-fn put_fields(fields: &mut [u32], a: u32, b: u32, c: u32, d: u32, e: u32)
+// All six fields are written.
+fn put_fields(
+    fields: &mut [u32],
+    number: u32,
+    highest: u32,
+    desired: u32,
+    minimum: u32,
+    last: u32,
+    ranges: u32,
+)
     requires { ⌜ length (now fields) ≡ fieldCount ⌝ }
-    ensures { λ _. ⌜ now (fields .exit) ≡ a ∷ b ∷ c ∷ d ∷ e ∷ 0 ∷ [] ⌝ }
+    ensures { λ _. ⌜ now (fields .exit) ≡ number ∷ highest ∷ desired ∷ minimum ∷ last ∷ ranges ∷ [] ⌝ }
 {
-    fields[0] = a;
-    fields[1] = b;
-    fields[2] = c;
-    fields[3] = d;
-    fields[4] = e;
-    fields[5] = 0;
+    fields[0] = number;
+    fields[1] = highest;
+    fields[2] = desired;
+    fields[3] = minimum;
+    fields[4] = last;
+    fields[RANGES] = ranges;
 }
 
 // All three words of a cursor are written.

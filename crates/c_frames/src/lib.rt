@@ -21,7 +21,12 @@ pub extern "C" fn x2u_read_all(
 {
     let seen = c_calls::look(frame, fields);
     if c_calls::is_status(seen.kind) {
-        frame_reader::put_ranges(frame, c_calls::first_of(seen.kind, fields[4]), starts, ends);
+        frame_reader::put_ranges(
+            frame,
+            c_calls::first_of(seen.kind, fields[c_calls::RANGES]),
+            starts,
+            ends,
+        );
         return c_calls::answer(seen);
     }
     c_calls::answer(seen)
@@ -40,9 +45,10 @@ pub extern "C" fn x2u_write_data(long: u32, number: u32, dst: &mut [u8]) -> i64
     }
 }
 
-// Writes a status frame at the front of a buffer: how many octets it has. Range i is starts[i] to ends[i].
+// Writes a status frame at the front of a buffer: how many octets it has. Range i is starts[i] to ends[i]. C gives its fields by
+// name, to an inline function of the header that calls this one.
 #[no_mangle]
-pub extern "C" fn x2u_write_status(
+pub extern "C" fn x2u_write_status_parts(
     long: u32,
     last: u32,
     highest: u32,

@@ -1,6 +1,7 @@
 -- Plain arrays that are read as one state are equal up to the slots past the counts: each word and each array is what the state says.
 -- Assumes nothing.
 use mathlib.Core.Path.{_≡_, refl, sym, _∙_, ap}
+use mathlib.Core.Bool.{not}
 use mathlib.Core.List.{List, [], _∷_, map}
 use Prim.Native.Nat.{ℕ, zero, suc, _≤_, _<_}
 use native.Mathlib.Omega.{arith}
@@ -12,14 +13,12 @@ use Rattle.frame_layout.specs.Frames.{Range, startsOf, endsOf}
 use Rattle.bearer.specs.Packets.{Each}
 use Rattle.bearer.specs.Keeper.{Keeper, Record, numbersOf}
 use Rattle.keeper_state.specs.declared.Words.{Words}
-use Rattle.keeper_state.specs.State.{heldIn, listedIn, recordsOf}
+use Rattle.keeper_state.specs.State.{isOpen, openedWord, heldIn, listedIn, recordsOf}
+use Rattle.keeper_state.proofs.Opened.{opened-own}
 use Rattle.keeper_state.proofs.Fronts.{fronts, numbers-are, starts-are, ends-are, count-is}
-use Rattle.keeper.specs.View.{Arrays, wordsIn, wordsOf, keeperIn}
+use Rattle.keeper.specs.View.{Arrays, stateHeld, wordsIn}
 use Rattle.keeper.specs.Plain.{Plain, Sized, Alike}
-
--- the state that arrays hold
-abbrev pub stateHeld : Arrays → Keeper
-stateHeld a = keeperIn (a .numbers) (a .pdcps) (a .marks) (a .starts) (a .ends) (a .words)
+use Rattle.keeper.proofs.Words.{six}
 
 -- arrays are equal to themselves
 pub alike-own : (a : Arrays) → Alike a a
@@ -59,24 +58,11 @@ fields-held (suc n) (x ∷ ns) (y ∷ ps) (z ∷ cs) hn hp hc =
     let rest = fields-held n ns ps cs (omega arith) (omega arith) (omega arith) in
     (ap (λ (l : List ℕ). y ∷ l) (rest .0), ap (λ (l : List ℕ). bit (isSet z) ∷ l) (rest .1))
 
--- ---- the words
-
--- six words are those that stand in their places
-six : (w : List ℕ) → length w ≡ 6 → w ≡ wordsOf (wordsIn w)
-six [] e = absurd (omega arith)
-six (a ∷ []) e = absurd (omega arith)
-six (a ∷ b ∷ []) e = absurd (omega arith)
-six (a ∷ b ∷ c ∷ []) e = absurd (omega arith)
-six (a ∷ b ∷ c ∷ d ∷ []) e = absurd (omega arith)
-six (a ∷ b ∷ c ∷ d ∷ f ∷ []) e = absurd (omega arith)
-six (a ∷ b ∷ c ∷ d ∷ f ∷ g ∷ []) e = refl
-six (a ∷ b ∷ c ∷ d ∷ f ∷ g ∷ h ∷ l) e = absurd (omega arith)
-
 -- ---- what a state says
 
 -- its words
 abbrev wordsSaid : Keeper → List ℕ
-wordsSaid k = k .bits ∷ k .base ∷ k .reported ∷ bit (k .closed) ∷ length (k .runs) ∷ length (k .records) ∷ []
+wordsSaid k = k .bits ∷ k .base ∷ k .reported ∷ openedWord (k .closed) ∷ length (k .runs) ∷ length (k .records) ∷ []
 
 -- plain arrays hold what their state says
 module _ (a : Arrays) (sized : Sized a) (plain : Plain (a .words) (a .marks)) where
@@ -119,7 +105,7 @@ module _ (a : Arrays) (sized : Sized a) (plain : Plain (a .words) (a .marks)) wh
   words-said : a .words ≡ wordsSaid k
   words-said =
       let bits : lengthIn (w .bits) ≡ w .bits = length-read (w .bits) (plain .bits) in
-      let closed : bit (isSet (w .closed)) ≡ w .closed = flag-own (w .closed) (plain .closed) in
+      let opened : openedWord (not (isOpen (w .opened))) ≡ w .opened = opened-own (w .opened) (plain .opened) in
       let runs : length (k .runs) ≡ w .runs = count-is w (sized .listed) (w .runs) runs-counted in
       let records : length (k .records) ≡ w .records = fronts w (sized .held) (a .starts) (a .ends) .count ∙ sym records-counted in
       six (a .words) (sized .words) ∙ cc

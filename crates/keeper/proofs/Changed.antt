@@ -6,8 +6,7 @@ use mathlib.Core.List.{List}
 use Prim.Native.Nat.{ℕ, _≤_, _<_, min}
 use native.Mathlib.Omega.{arith}
 use lib.ListN.{set, take, drop, length-take}
-use Rattle.basics.specs.Basics.{bit, isSet, done}
-use Rattle.basics.proofs.Choices.{set-bit}
+use Rattle.basics.specs.Basics.{isSet, done}
 use Rattle.circle.specs.Lengths.{isLong}
 use Rattle.frame_layout.specs.Frames.{Range, Status, rangesOf, mostRanges, writeStatus}
 use Rattle.frame_writer.specs.declared.Wrote.{Wrote}
@@ -19,7 +18,8 @@ use Rattle.keeper_state.specs.declared.Words.{Words}
 use Rattle.keeper_judge.specs.declared.Losses.{Losses}
 use Rattle.keeper_judge.specs.declared.Plan.{Plan}
 use Rattle.keeper_report.specs.declared.Gone.{Gone}
-use Rattle.keeper_state.specs.State.{_saying-base_, _saying-reported_, _saying-closed_, _saying-runs_, _saying-records_, modulusIn, heldIn, listedIn, recordsOf, stateOf, stateIn, Fronts}
+use Rattle.keeper_state.specs.State.{openedWord, _saying-base_, _saying-reported_, _saying-opened_, _saying-runs_, _saying-records_, modulusIn, heldIn, listedIn, recordsOf, stateOf, stateIn, Fronts}
+use Rattle.keeper_state.proofs.Opened.{opened-said}
 use Rattle.keeper_judge.specs.Judgements.{Losing, Loses, AcceptsArrival, AcceptsExpiry}
 use Rattle.keeper_report.specs.Reports.{AcceptsConfirm, AcceptsStatus}
 use Rattle.keeper_report.proofs.Letting.{run-within}
@@ -91,16 +91,16 @@ module _ (w : Words) (ns ps cs ss es : List ℕ) where
     gone-within =
         omega (arith, ap (λ (g : Gone). g .count) (builds .gone-is), run-within (mayGo state (drop mostRanges (state .runs))) (state .records), length-take (heldIn w) (recordsOf ns ps cs))
 
-    pub reported : {runs records : ℕ} {words : List ℕ} {next : Words} → words ≡ wordsOf next → next ≡ (w saying-reported gone .highest saying-closed bit last saying-runs runs saying-records records)
+    pub reported : {runs records : ℕ} {words : List ℕ} {next : Words} → words ≡ wordsOf next → next ≡ (w saying-reported gone .highest saying-opened openedWord last saying-runs runs saying-records records)
         → (ns' ps' cs' ss' es' : List ℕ)
         → take (min runs mostRuns) (rangesOf ss' es') ≡ drop mostRanges (state .runs)
         → take (min records mostRecords) (recordsOf ns' ps' cs') ≡ drop (gone .count) (state .records)
         → record { answer = done octets; state = keeperIn ns' ps' cs' ss' es' words; buffer = dst } ≡ status state desired minimum last d
     reported {runs} {records} e f ns' ps' cs' ss' es' g h =
-        let saying : ℕ → Words = λ (highest : ℕ). w saying-reported highest saying-closed bit last saying-runs runs saying-records records in
+        let saying : ℕ → Words = λ (highest : ℕ). w saying-reported highest saying-opened openedWord last saying-runs runs saying-records records in
         let after : Gone → Keeper = λ (g : Gone). stateOf (saying (g .highest)) (drop mostRanges (state .runs)) (drop (g .count) (state .records)) in
         ap (λ (k : Keeper). record { answer = done octets; state = k; buffer = dst })
-        (stored ns' ps' cs' ss' es' e f ∙ ap₂ (stateOf (saying (gone .highest))) g h ∙ ap after (builds .gone-is) ∙ ap (λ (b : Bool). reportedState state last with-closed b) (set-bit last))
+        (stored ns' ps' cs' ss' es' e f ∙ ap₂ (stateOf (saying (gone .highest))) g h ∙ ap after (builds .gone-is) ∙ ap (λ (b : Bool). reportedState state last with-closed b) (opened-said last))
         ∙ sym (builds .outcome)
 
 -- ---- the frame of a status

@@ -1,4 +1,5 @@
 pub mod Lengths
+pub mod Words
 pub mod Parts
 pub mod Ranges
 pub mod Records
@@ -8,3 +9,4 @@ pub mod Changed
 pub mod Plain
 pub mod Alike
 pub mod Unique
+pub mod Unopened

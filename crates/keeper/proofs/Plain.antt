@@ -1,23 +1,22 @@
 -- What each step of a call leaves of marks that are 0 or 1, and each call of arrays that are plain.
 -- Assumes nothing.
 use mathlib.Core.Path.{_≡_, sym, subst}
-use mathlib.Core.Bool.{Bool, true}
+use mathlib.Core.Bool.{Bool, true, false}
 use mathlib.Core.Logic.{⊎-elim}
 use mathlib.Core.List.{List, _∷_, _++_}
 use Prim.Native.Nat.{ℕ, _+_, _-_, _≤_, _<_, min}
 use native.Mathlib.Omega.{arith}
 use lib.ListN.{set, take, drop}
 use lib.Seq.{take-set-lt, take-set-le}
-use Rattle.basics.specs.Basics.{bit}
 use Rattle.basics.proofs.Choices.{order}
-use Rattle.frame_layout.proofs.First.{bit-below}
 use Rattle.circle.specs.Lengths.{isLength}
 use Rattle.bearer.specs.Bearer.{mostRuns, mostRecords}
 use Rattle.bearer.specs.Packets.{Each}
 use Rattle.bearer.proofs.Lists.Mapped.{each-drop}
 use Rattle.bearer.proofs.Lists.Elements.{each-set, each-inserted}
 use Rattle.keeper_state.specs.declared.Words.{Words}
-use Rattle.keeper_state.specs.State.{_saying-base_, _saying-reported_, _saying-closed_, _saying-runs_, _saying-records_}
+use Rattle.keeper_state.specs.State.{openedWord, _saying-base_, _saying-reported_, _saying-opened_, _saying-runs_, _saying-records_}
+use Rattle.keeper_state.proofs.Opened.{opened-written}
 use Rattle.keeper.specs.View.{wordsOf, freshWords}
 use Rattle.keeper.specs.Plain.{Marked, PlainIn, Plain}
 
@@ -65,20 +64,20 @@ module _ {words cs : List ℕ} {next next' : Words} (e : words ≡ wordsOf next)
 -- of an open
 pub plain-opened : {words cs : List ℕ} {next : Words} (L first f : ℕ) → isLength L ≡ true → words ≡ wordsOf next → next ≡ freshWords L first f → Plain words cs
 plain-opened L first f good e is =
-    stored e is (record { bits = good; closed = omega arith; runs = omega arith; records = record { within = omega arith; flags = tt } })
+    stored e is (record { bits = good; opened = opened-written false; runs = omega arith; records = record { within = omega arith; flags = tt } })
 
 -- of a confirm, which stores a mark alone
 pub plain-confirmed : {w : Words} {cs : List ℕ} (at mark : ℕ) → mark < 2 → PlainIn w cs → PlainIn w (set cs at mark)
-plain-confirmed {w} at mark flag p = record { bits = p .bits; closed = p .closed; runs = p .runs; records = marked-set (w .records) at mark flag (p .records) }
+plain-confirmed {w} at mark flag p = record { bits = p .bits; opened = p .opened; runs = p .runs; records = marked-set (w .records) at mark flag (p .records) }
 
 module _ (w : Words) {words cs cs' : List ℕ} {next : Words} {records : ℕ} (keeps : Marked (w .records) cs → Marked records cs') where
   -- of an arrival or an expiry
   pub plain-moved : (base runs : ℕ) → runs ≤ mostRuns → words ≡ wordsOf next → next ≡ (w saying-base base saying-runs runs saying-records records)
       → PlainIn w cs → Plain words cs'
-  plain-moved base runs few e is p = stored e is (record { bits = p .bits; closed = p .closed; runs = few; records = keeps (p .records) })
+  plain-moved base runs few e is p = stored e is (record { bits = p .bits; opened = p .opened; runs = few; records = keeps (p .records) })
 
   -- of a status
   pub plain-reported : (highest : ℕ) (last : Bool) (runs : ℕ) → runs ≤ mostRuns → words ≡ wordsOf next
-      → next ≡ (w saying-reported highest saying-closed bit last saying-runs runs saying-records records)
+      → next ≡ (w saying-reported highest saying-opened openedWord last saying-runs runs saying-records records)
       → PlainIn w cs → Plain words cs'
-  plain-reported highest last runs few e is p = stored e is (record { bits = p .bits; closed = bit-below last; runs = few; records = keeps (p .records) })
+  plain-reported highest last runs few e is p = stored e is (record { bits = p .bits; opened = opened-written last; runs = few; records = keeps (p .records) })

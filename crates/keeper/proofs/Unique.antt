@@ -12,9 +12,9 @@ use Rattle.keeper.specs.declared.Opened as O
 use Rattle.keeper.specs.declared.Counted as C
 use Rattle.keeper.specs.declared.Confirmed as F
 use Rattle.keeper.specs.declared.Frame as R
-use Rattle.keeper.specs.View.{Arrays, openedAs, countedAs, confirmedAs, reportedAs}
+use Rattle.keeper.specs.View.{Arrays, stateHeld, openedAs, countedAs, confirmedAs, reportedAs}
 use Rattle.keeper.specs.Plain.{Plain, Sized, Alike}
-use Rattle.keeper.proofs.Alike.{stateHeld, alike-own, same-arrays}
+use Rattle.keeper.proofs.Alike.{alike-own, same-arrays}
 
 -- ---- an accepted call is no refused one
 

@@ -1,3 +1,4 @@
 pub mod View
 pub mod Plain
 pub mod Steps
+pub mod Unopened

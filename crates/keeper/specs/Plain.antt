@@ -4,14 +4,15 @@
 use mathlib.Core.Path.{_≡_}
 use mathlib.Core.Bool.{true}
 use mathlib.Core.List.{List}
+use mathlib.Core.Logic.{_⊎_}
 use Prim.Native.Nat.{ℕ, _≤_, _<_}
 use lib.ListN.{length, take}
 use Rattle.circle.specs.Lengths.{isLength}
 use Rattle.bearer.specs.Bearer.{mostRuns, mostRecords}
 use Rattle.bearer.specs.Packets.{Each}
 use Rattle.keeper_state.specs.declared.Words.{Words}
-use Rattle.keeper_state.specs.State.{HeldSizes, ListedSizes}
-use Rattle.keeper.specs.View.{wordsIn, Arrays}
+use Rattle.keeper_state.specs.State.{openWord, HeldSizes, ListedSizes}
+use Rattle.keeper.specs.View.{wordCount, wordsIn, Arrays}
 
 -- ---- what calls leave
 
@@ -20,10 +21,10 @@ pub record Marked (count : ℕ) (cs : List ℕ) : Type 0 where
   pub within : count ≤ mostRecords
   pub flags : Each (λ (mark : ℕ). mark < 2) (take count cs)
 
--- L is one of document 01's, closed is 0 or 1, the counts are no more than it allows, and the mark of each record is 0 or 1
+-- L is one of document 01's, the word that says open or closed is one of the two that are written, the counts are no more than it allows, and the mark of each record is 0 or 1
 pub record PlainIn (w : Words) (cs : List ℕ) : Type 0 where
   pub bits : isLength (w .bits) ≡ true
-  pub closed : w .closed < 2
+  pub opened : (w .opened ≡ openWord) ⊎ (w .opened ≡ 0)
   pub runs : w .runs ≤ mostRuns
   pub records : Marked (w .records) cs
 
@@ -37,7 +38,7 @@ Plain w cs = PlainIn (wordsIn w) cs
 pub record Sized (a : Arrays) : Type 0 where
   pub held : HeldSizes (a .numbers) (a .pdcps) (a .marks)
   pub listed : ListedSizes (a .starts) (a .ends)
-  pub words : length (a .words) ≡ 6
+  pub words : length (a .words) ≡ wordCount
 
 -- arrays that are equal up to the slots past the counts
 pub record Alike (a b : Arrays) : Type 0 where

@@ -1,16 +1,18 @@
 -- How the lent arrays stand for the secondary's machine (the crate bearer, Keeper.antt), and what the answers mean in
 -- document 01's words. Slots past a count are no part of the state; a count past the end counts as full, and a length
--- that is none of document 01's counts as 18, so that arrays of any content are a state (the crate keeper_state, State.antt).
+-- that is none of document 01's counts as 18, so that arrays of any content are a state (the crate keeper_state, State.antt);
+-- those without the one word by which an end is open are a closed one (Unopened.antt).
 -- Assumes nothing.
+use mathlib.Core.Bool.{not}
 use mathlib.Core.List.{List, [], _∷_}
 use Prim.Native.Nat.{ℕ}
 use lib.ListN.{getD}
-use Rattle.basics.specs.Basics.{isSet, Outcome, done, refused}
+use Rattle.basics.specs.Basics.{Outcome, done, refused}
 use Rattle.circle.specs.Lengths.{pdcpBefore}
 use Rattle.bearer.specs.Bearer.{After, refusing, answering}
 use Rattle.bearer.specs.Keeper.{Keeper, Reported, unreported}
 use Rattle.keeper_state.specs.declared.Words.{Words}
-use Rattle.keeper_state.specs.State.{listedIn, heldIn, stateIn}
+use Rattle.keeper_state.specs.State.{openWord, isOpen, listedIn, heldIn, stateIn}
 pub use Rattle.keeper_state.specs.State.{recordsOf}
 use Rattle.keeper.specs.declared.Shown.{Shown}
 use Rattle.keeper.specs.declared.Opened as O
@@ -20,24 +22,28 @@ use Rattle.keeper.specs.declared.Frame as R
 
 -- ---- the words
 
--- the words by name: L, base, the reported highest, closed, how many runs and how many records
+-- how many there are
+abbrev pub wordCount : ℕ
+wordCount = 6
+
+-- the words by name: L, base, the reported highest, open, how many runs and how many records
 abbrev pub wordsIn : List ℕ → Words
-wordsIn w = record { bits = getD w 0 0; base = getD w 1 0; reported = getD w 2 0; closed = getD w 3 0; runs = getD w 4 0; records = getD w 5 0 }
+wordsIn w = record { bits = getD w 0 0; base = getD w 1 0; reported = getD w 2 0; opened = getD w 3 0; runs = getD w 4 0; records = getD w 5 0 }
 
 -- and in their places
 abbrev pub wordsOf : Words → List ℕ
-wordsOf w = w .bits ∷ w .base ∷ w .reported ∷ w .closed ∷ w .runs ∷ w .records ∷ []
+wordsOf w = w .bits ∷ w .base ∷ w .reported ∷ w .opened ∷ w .runs ∷ w .records ∷ []
 
 -- the words of a fresh end
 abbrev pub freshWords : ℕ → ℕ → ℕ → Words
-freshWords L first f = record { bits = L; base = first; reported = pdcpBefore L f; closed = 0; runs = 0; records = 0 }
+freshWords L first f = record { bits = L; base = first; reported = pdcpBefore L f; opened = openWord; runs = 0; records = 0 }
 
 -- what they say to those who show a state
 abbrev pub shownIn : List ℕ → Shown
 shownIn w = record {
   base = wordsIn w .base;
   reported = wordsIn w .reported;
-  closed = isSet (wordsIn w .closed);
+  closed = not (isOpen (wordsIn w .opened));
   runs = listedIn (wordsIn w);
   records = heldIn (wordsIn w);
 }
@@ -60,6 +66,10 @@ pub record Arrays : Type 0 where
 -- six lists as the lent arrays
 abbrev pub arrays : List ℕ → List ℕ → List ℕ → List ℕ → List ℕ → List ℕ → Arrays
 arrays ns ps cs ss es w = record { numbers = ns; pdcps = ps; marks = cs; starts = ss; ends = es; words = w }
+
+-- the state that they hold
+abbrev pub stateHeld : Arrays → Keeper
+stateHeld a = keeperIn (a .numbers) (a .pdcps) (a .marks) (a .starts) (a .ends) (a .words)
 
 -- ---- what the answers mean
 

@@ -1,6 +1,6 @@
 // The secondary's loss keeper (SeNB end): open, arrival, expiry, confirm, status. The state is lent arrays of numbers,
 // changed in place: records in sending order (number, PDCP number, mark of confirmation), listed runs (start, end), and six
-// words: L, base, the reported highest, closed, how many runs, how many records. specs/View.antt says how they are read, and
+// words: L, base, the reported highest, open or closed, how many runs, how many records. specs/View.antt says how they are read, and
 // specs/Plain.antt which numbers calls leave in them.
 // Each call is judged (the crates keeper_judge and keeper_report) before anything is changed.
 ghost use mathlib.Core.Path.{_≡_};
@@ -15,9 +15,9 @@ ghost use Rattle.frame_writer.specs.Answers.{left};
 ghost use Rattle.bearer.specs.Bearer.{mostRuns, mostRecords};
 ghost use Rattle.bearer.specs.Losses.{newRuns, withRuns};
 ghost use Rattle.bearer.specs.Keeper.{openKeeper, newRecord, recordsWith, arrive as «arriveOf», expire as «expireOf», confirm as «confirmOf», status as «statusOf»};
-ghost use Rattle.keeper_state.specs.State.{_saying-base_, _saying-reported_, _saying-closed_, _saying-runs_, _saying-records_, modulusIn, heldIn, listedIn, recordsOf, stateIn};
+ghost use Rattle.keeper_state.specs.State.{openedWord, _saying-base_, _saying-reported_, _saying-opened_, _saying-runs_, _saying-records_, modulusIn, heldIn, listedIn, recordsOf, stateIn};
 ghost use Rattle.keeper_judge.specs.Judgements.{Losing};
-ghost use Rattle.keeper.specs.View.{wordsIn, wordsOf, freshWords, shownIn, keeperIn, openedAs, countedAs, confirmedAs, reportedAs, opensInto, arrays};
+ghost use Rattle.keeper.specs.View.{wordCount, wordsIn, wordsOf, freshWords, shownIn, keeperIn, openedAs, countedAs, confirmedAs, reportedAs, opensInto, arrays};
 ghost use Rattle.keeper.specs.Plain.{Marked, Plain};
 ghost use Rattle.keeper.specs.Steps.{Lists, statusWith, Builds};
 use frame_writer::Head;
@@ -30,8 +30,20 @@ use keeper_report::Gone;
 use keeper_report::Report;
 use keeper_state::Words;
 
-// How many words there are.
+// How many words there are, and where each stands.
 const WORDS: usize = 6;
+
+const BITS: usize = 0;
+
+const BASE: usize = 1;
+
+const REPORTED: usize = 2;
+
+const OPENED: usize = 3;
+
+const RUNS: usize = 4;
+
+const RECORDS: usize = 5;
 
 // The lent arrays: a number of each record, one of each listed run, and the words.
 pub type RecordArray = keeper_state::RecordArray;
@@ -136,7 +148,7 @@ pub fn arrive(
             let lost = plan.lost;
             list_lost(numbers, starts, ends, w, lost);
             let records = add_record(numbers, pdcps, marks, w.records, place, number, pdcp);
-            store(words, moved(w, plan.base, lost.runs, records));
+            store_moved(words, plan.base, lost.runs, records);
             Counted::Lost(lost.numbers)
         }
     }
@@ -163,7 +175,7 @@ pub fn expire(
         Expiry::Accepted(plan) => {
             let lost = plan.lost;
             list_lost(numbers, starts, ends, w, lost);
-            store(words, moved(w, plan.base, lost.runs, w.records));
+            store_moved(words, plan.base, lost.runs, w.records);
             Counted::Lost(lost.numbers)
         }
     }
@@ -230,7 +242,7 @@ pub fn status(
         Built::Octets { octets, gone } => {
             let runs = drop_runs(starts, ends, w.runs);
             let records = drop_records(numbers, pdcps, marks, w.records, gone.count);
-            store(words, reported(w, gone.highest, last, runs, records));
+            store_reported(words, gone.highest, last, runs, records);
             Frame::Octets(octets)
         }
     }
@@ -244,7 +256,7 @@ pub fn show(words: &WordArray) -> Shown
     Shown {
         base: w.base,
         reported: w.reported,
-        closed: basics::is_set(w.closed),
+        closed: !keeper_state::is_open(w.opened),
         runs: listed_in(w.runs),
         records: held_in(w.records),
     }
@@ -252,25 +264,25 @@ pub fn show(words: &WordArray) -> Shown
 
 // ---- the words
 
-// The words as they stand; `store` alone says their places too.
+// The words as they stand.
 fn read(words: &WordArray) -> Words
     ensures { λ r. ⌜ r ≡ wordsIn (now (words .entry)) ⌝ }
 {
     Words {
-        bits: words[0],
-        base: words[1],
-        reported: words[2],
-        closed: words[3],
-        runs: words[4],
-        records: words[5],
+        bits: words[BITS],
+        base: words[BASE],
+        reported: words[REPORTED],
+        opened: words[OPENED],
+        runs: words[RUNS],
+        records: words[RECORDS],
     }
 }
 
-// All are written.
+// All are written, in the order of their places.
 fn store(words: &mut WordArray, w: Words)
     ensures { λ _. ⌜ now (words .exit) ≡ wordsOf w ⌝ }
 {
-    *words = [w.bits, w.base, w.reported, w.closed, w.runs, w.records];
+    *words = [w.bits, w.base, w.reported, w.opened, w.runs, w.records];
 }
 
 // How many runs a word says are listed: a count past the end counts as full.
@@ -296,34 +308,31 @@ fn fresh(bits: u32, number: u32, pdcp: u32) -> Words
         bits: bits,
         base: number,
         reported: circle::forward(1, pdcp, bits),
-        closed: 0,
+        opened: keeper_state::opened_word(false),
         runs: 0,
         records: 0,
     }
 }
 
-// The words when base moved and numbers were lost.
-fn moved(w: Words, base: u32, runs: usize, records: u32) -> Words
-    requires { ⌜ runs ≤ mostRuns ⌝ }
-    ensures { λ r. ⌜ r ≡ (w saying-base base saying-runs runs saying-records records) ⌝ }
+// Those that change are written when base moved and numbers were lost.
+fn store_moved(words: &mut [u32], base: u32, runs: usize, records: u32)
+    requires { ⌜ (length (now words) ≡ wordCount) × (runs ≤ mostRuns) ⌝ }
+    ensures { λ _. ⌜ now (words .exit) ≡ wordsOf (wordsIn (now (words .entry)) saying-base base saying-runs runs saying-records records) ⌝ }
 {
-    let mut next = w;
-    next.base = base;
-    next.runs = runs as u32;
-    next.records = records;
-    next
+    words[BASE] = base;
+    words[RUNS] = runs as u32;
+    words[RECORDS] = records;
 }
 
-// The words after a status.
-fn reported(w: Words, highest: u32, last: bool, runs: u32, records: u32) -> Words
-    ensures { λ r. ⌜ r ≡ (w saying-reported highest saying-closed bit last saying-runs runs saying-records records) ⌝ }
+// Those that change are written after a status.
+fn store_reported(words: &mut [u32], highest: u32, last: bool, runs: u32, records: u32)
+    requires { ⌜ length (now words) ≡ wordCount ⌝ }
+    ensures { λ _. ⌜ now (words .exit) ≡ wordsOf (wordsIn (now (words .entry)) saying-reported highest saying-opened openedWord last saying-runs runs saying-records records) ⌝ }
 {
-    let mut next = w;
-    next.reported = highest;
-    next.closed = basics::flag(last);
-    next.runs = runs;
-    next.records = records;
-    next
+    words[REPORTED] = highest;
+    words[OPENED] = keeper_state::opened_word(last);
+    words[RUNS] = runs;
+    words[RECORDS] = records;
 }
 
 // ---- runs

@@ -6,7 +6,7 @@ use mathlib.Core.List.{List}
 use Prim.Native.Nat.{ℕ, suc, _+_, _/_, _≤_, _<_}
 use lib.Dec.{ltb, leb}
 use lib.ListN.{length, length-map}
-use borrow.Author.Tests.{eq-eqb, ne-eqb, lt-ltb, le-ltb, lt-leb, le-leb}
+use borrow.Author.Tests.{lt-ltb, le-ltb, lt-leb, le-leb}
 use Rattle.circle.specs.Circle.{forward}
 use Rattle.circle.specs.Lengths.{pdcps, lengthIn}
 use Rattle.basics.specs.Basics.{if_then_else_}
@@ -17,7 +17,7 @@ use Rattle.bearer.specs.Keeper.{Keeper, Record, numbersOf, runsAfter, givenUp, 
 use Rattle.bearer.proofs.Lists.Mapped.{front-within}
 use Rattle.keeper_state.specs.declared.Words.{Words}
 use Rattle.keeper_judge.specs.declared.Losses.{Losses}
-use Rattle.keeper_state.specs.State.{modulusIn, stateOf}
+use Rattle.keeper_state.specs.State.{isOpen, modulusIn, stateOf}
 use Rattle.keeper_judge.specs.Judgements.{Losing, AcceptsArrival}
 use Rattle.keeper_judge.proofs.Given.{same-outcome}
 
@@ -27,26 +27,26 @@ module _ (w : Words) (runs : List Range) (records : List Record) (n p : ℕ) whe
   abbrev state : Keeper
   state = stateOf w runs records
 
-  pub closed-arrival : (w .closed ≡ 0 → ⊥) → arrive state n p ≡ refusing 9 state
-  closed-arrival h = rw (ne-eqb (w .closed) 0 h)
+  pub closed-arrival : isOpen (w .opened) ≡ false → arrive state n p ≡ refusing 9 state
+  closed-arrival h = rw h
 
-  module _ (opened : w .closed ≡ 0) where
+  module _ (opened : isOpen (w .opened) ≡ true) where
     pub bad-number : modulusIn w ≤ n → arrive state n p ≡ refusing 10 state
-    bad-number h = rw (eq-eqb (w .closed) 0 opened, le-ltb n (modulusIn w) h)
+    bad-number h = rw (opened, le-ltb n (modulusIn w) h)
 
     module _ (good : n < modulusIn w) where
       pub bad-pdcp : pdcps (lengthIn (w .bits)) ≤ p → arrive state n p ≡ refusing 10 state
-      bad-pdcp h = rw (eq-eqb (w .closed) 0 opened, lt-ltb n (modulusIn w) good, le-ltb p (pdcps (lengthIn (w .bits))) h)
+      bad-pdcp h = rw (opened, lt-ltb n (modulusIn w) good, le-ltb p (pdcps (lengthIn (w .bits))) h)
 
       -- by how far it is forward from base
       module _ (fits : p < pdcps (lengthIn (w .bits))) (d : ℕ) (far : d ≡ forward (modulusIn w) (w .base) n) where
         pub late : modulusIn w / 2 ≤ d → arrive state n p ≡ refusing 11 state
         late h =
-            rw (eq-eqb (w .closed) 0 opened, lt-ltb n (modulusIn w) good, lt-ltb p (pdcps (lengthIn (w .bits))) fits, ← far, le-leb (modulusIn w / 2) d h)
+            rw (opened, lt-ltb n (modulusIn w) good, lt-ltb p (pdcps (lengthIn (w .bits))) fits, ← far, le-leb (modulusIn w / 2) d h)
 
         pub on-time : d < modulusIn w / 2 → arrive state n p ≡ arriveAt state n p (placeOf state d) d
         on-time h =
-            rw (eq-eqb (w .closed) 0 opened, lt-ltb n (modulusIn w) good, lt-ltb p (pdcps (lengthIn (w .bits))) fits, ← far, lt-leb (modulusIn w / 2) d h)
+            rw (opened, lt-ltb n (modulusIn w) good, lt-ltb p (pdcps (lengthIn (w .bits))) fits, ← far, lt-leb (modulusIn w / 2) d h)
 
 -- ---- 12, 13, 14, 15
 

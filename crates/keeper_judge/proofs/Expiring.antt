@@ -1,6 +1,7 @@
 -- The machine's judgement of an expiry, from the tests that the engine makes in the same order.
 -- Assumes nothing.
 use mathlib.Core.Path.{_≡_, sym, _∙_}
+use mathlib.Core.Bool.{true, false}
 use mathlib.Core.List.{List}
 use Prim.Native.Nat.{ℕ, _≤_, _<_}
 use native.Mathlib.Omega.{arith}
@@ -12,7 +13,7 @@ use Rattle.bearer.specs.Losses.{topOf, offsets, fromBase, raisedBase}
 use Rattle.bearer.specs.Keeper.{Keeper, Record, numbersOf, runsAfter, expireBelow, expire}
 use Rattle.keeper_state.specs.declared.Words.{Words}
 use Rattle.keeper_judge.specs.declared.Losses.{Losses}
-use Rattle.keeper_state.specs.State.{modulusIn, stateOf}
+use Rattle.keeper_state.specs.State.{isOpen, modulusIn, stateOf}
 use Rattle.keeper_judge.specs.Judgements.{Losing, AcceptsExpiry}
 use Rattle.keeper_judge.proofs.Given.{same-outcome}
 
@@ -20,13 +21,13 @@ module _ (w : Words) (runs : List Range) (records : List Record) where
   abbrev state : Keeper
   state = stateOf w runs records
 
-  pub closed-expiry : (w .closed ≡ 0 → ⊥) → expire state ≡ refusing 9 state
-  closed-expiry h = rw (ne-eqb (w .closed) 0 h)
+  pub closed-expiry : isOpen (w .opened) ≡ false → expire state ≡ refusing 9 state
+  closed-expiry h = rw h
 
   -- by the numbers held and the highest of them
-  module _ (ns : List ℕ) (en : numbersOf records ≡ ns) (opened : w .closed ≡ 0) (top : ℕ) (top-is : top ≡ topOf (modulusIn w) (w .base) ns) where
+  module _ (ns : List ℕ) (en : numbersOf records ≡ ns) (opened : isOpen (w .opened) ≡ true) (top : ℕ) (top-is : top ≡ topOf (modulusIn w) (w .base) ns) where
     at-top : expire state ≡ expireBelow state top
-    at-top = rw (eq-eqb (w .closed) 0 opened, en, ← top-is)
+    at-top = rw (opened, en, ← top-is)
 
     pub no-gap : top ≡ 0 → expire state ≡ refusing 17 state
     no-gap h = at-top ∙ rw (eq-eqb top 0 h)

@@ -110,7 +110,7 @@ fn judge_number(
     ensures { λ r. ⌜ ((runs : List Range) (records : List Record) → numbersOf records ≡ now (numbers .entry) → startsOf runs ≡ now (starts .entry) → endsOf runs ≡ now (ends .entry)
         → JudgesArrival r (stateOf w runs records) number pdcp) ⌝ }
 {
-    if w.closed != 0 {
+    if !keeper_state::is_open(w.opened) {
         return Arrival::Refused(refusal::CLOSED);
     }
     let long = circle::is_long(w.bits);
@@ -301,7 +301,7 @@ fn judge_below(w: Words, numbers: &[u32], ends: &[u32]) -> Expiry
     ensures { λ r. ⌜ ((runs : List Range) (records : List Record) → numbersOf records ≡ now (numbers .entry) → endsOf runs ≡ now (ends .entry)
         → JudgesExpiry r (stateOf w runs records)) ⌝ }
 {
-    if w.closed != 0 {
+    if !keeper_state::is_open(w.opened) {
         return Expiry::Refused(refusal::CLOSED);
     }
     let long = circle::is_long(w.bits);

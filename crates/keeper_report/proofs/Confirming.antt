@@ -6,34 +6,34 @@ use mathlib.Core.List.{List}
 use Prim.Native.Nat.{ℕ, _≤_, _<_}
 use native.Mathlib.Omega.{arith}
 use lib.ListN.{length, getD, length-map}
-use borrow.Author.Tests.{eq-eqb, ne-eqb, lt-ltb, le-ltb, lt-leb, le-leb}
+use borrow.Author.Tests.{lt-ltb, le-ltb, lt-leb, le-leb}
 use Rattle.frame_layout.specs.Frames.{Range}
 use Rattle.bearer.specs.Bearer.{refusing}
 use Rattle.bearer.specs.Losses.{beforeBase}
 use Rattle.bearer.specs.Keeper.{Keeper, Record, noRecord, numbersOf, indexOf, confirmAt, confirm}
 use Rattle.keeper_state.specs.declared.Words.{Words}
-use Rattle.keeper_state.specs.State.{modulusIn, stateOf}
+use Rattle.keeper_state.specs.State.{isOpen, modulusIn, stateOf}
 use Rattle.keeper_report.specs.Reports.{AcceptsConfirm}
 
 module _ (w : Words) (runs : List Range) (records : List Record) (n : ℕ) where
   abbrev state : Keeper
   state = stateOf w runs records
 
-  pub closed-confirm : (w .closed ≡ 0 → ⊥) → confirm state n ≡ refusing 9 state
-  closed-confirm h = rw (ne-eqb (w .closed) 0 h)
+  pub closed-confirm : isOpen (w .opened) ≡ false → confirm state n ≡ refusing 9 state
+  closed-confirm h = rw h
 
-  module _ (opened : w .closed ≡ 0) where
+  module _ (opened : isOpen (w .opened) ≡ true) where
     pub no-number : modulusIn w ≤ n → confirm state n ≡ refusing 10 state
-    no-number h = rw (eq-eqb (w .closed) 0 opened, le-ltb n (modulusIn w) h)
+    no-number h = rw (opened, le-ltb n (modulusIn w) h)
 
     -- by where it stands among the numbers held
     module _ (good : n < modulusIn w) (ns : List ℕ) (seen : numbersOf records ≡ ns) (at : ℕ) (at-is : at ≡ indexOf n ns) where
       pub nowhere : length ns ≤ at → confirm state n ≡ refusing 16 state
-      nowhere h = rw (eq-eqb (w .closed) 0 opened, lt-ltb n (modulusIn w) good, seen, ← at-is, le-leb (length ns) at h)
+      nowhere h = rw (opened, lt-ltb n (modulusIn w) good, seen, ← at-is, le-leb (length ns) at h)
 
       module _ (found : at < length ns) where
         at-place : confirm state n ≡ confirmAt state n at
-        at-place = rw (eq-eqb (w .closed) 0 opened, lt-ltb n (modulusIn w) good, seen, ← at-is, lt-leb (length ns) at found)
+        at-place = rw (opened, lt-ltb n (modulusIn w) good, seen, ← at-is, lt-leb (length ns) at found)
 
         pub not-before : beforeBase (modulusIn w) (w .base) n ≡ false → confirm state n ≡ refusing 16 state
         not-before h = at-place ∙ rw h

@@ -9,13 +9,12 @@ use native.Mathlib.Numerals.{add-one}
 use lib.Dec.{ltb}
 use lib.ListN.{length, getD, drop}
 use lib.Seq.{drop-cons}
-use borrow.Author.Tests.{eq-eqb, ne-eqb}
 use Rattle.basics.specs.Basics.{if_then_else_, _and_, isSet}
 use Rattle.frame_layout.specs.Frames.{Range, startsOf, mostRanges, writeStatus}
 use Rattle.bearer.specs.Losses.{goesBefore}
 use Rattle.bearer.specs.Keeper.{Keeper, Record, noRecord, runWith, letGo, highestOf, unreported, statusNow, reportedAs, status}
 use Rattle.keeper_state.specs.declared.Words.{Words}
-use Rattle.keeper_state.specs.State.{modulusIn, stateOf, recordsOf}
+use Rattle.keeper_state.specs.State.{isOpen, modulusIn, stateOf, recordsOf}
 use Rattle.keeper_report.specs.Reports.{goneOf}
 use Rattle.keeper_state.proofs.Records.{recordOf, record-at, records-count}
 
@@ -25,17 +24,17 @@ module _ (w : Words) (runs : List Range) (records : List Record) (final : Bool) 
   abbrev state : Keeper
   state = stateOf w runs records
 
-  pub closed-status : (w .closed ≡ 0 → ⊥) → status state desired minimum final d ≡ unreported 9 state d
-  closed-status h = rw (ne-eqb (w .closed) 0 h)
+  pub closed-status : isOpen (w .opened) ≡ false → status state desired minimum final d ≡ unreported 9 state d
+  closed-status h = rw h
 
-  module _ (opened : w .closed ≡ 0) where
+  module _ (opened : isOpen (w .opened) ≡ true) where
     pub left-out : final and ltb mostRanges (length runs) ≡ true → status state desired minimum final d ≡ unreported 22 state d
-    left-out h = rw (eq-eqb (w .closed) 0 opened, h)
+    left-out h = rw (opened, h)
 
     -- as the writer answers
     pub written : final and ltb mostRanges (length runs) ≡ false
         → status state desired minimum final d ≡ reportedAs state final (writeStatus (statusNow state desired minimum final) d)
-    written h = rw (eq-eqb (w .closed) 0 opened, h)
+    written h = rw (opened, h)
 
 -- ---- the records from place i on
 

@@ -46,7 +46,7 @@ pub fn judge_confirm(
 ) -> Found
     ensures { λ r. ⌜ ((ss es : List ℕ) → JudgesConfirm r (stateIn w (now (numbers .entry)) (now (pdcps .entry)) (now (marks .entry)) ss es) number) ⌝ }
 {
-    if w.closed != 0 {
+    if !keeper_state::is_open(w.opened) {
         return Found::Refused(refusal::CLOSED);
     }
     let long = circle::is_long(w.bits);
@@ -81,7 +81,7 @@ pub fn judge_status(
 {
     let held = keeper_state::held_in(w.records, numbers, pdcps, marks);
     let listed = keeper_state::listed_in(w.runs, starts, ends);
-    if w.closed != 0 {
+    if !keeper_state::is_open(w.opened) {
         return Report::Refused(refusal::CLOSED);
     }
     if leaves_out(last, listed) {

@@ -1,10 +1,12 @@
 -- How words and lent arrays stand for the secondary's machine (the crate bearer, Keeper.antt). Slots past a count are no part of
--- the state; a count past the end counts as full, and a length that is none of document 01's counts as 18, so that words and
--- arrays of any content are a state.
+-- the state; a count past the end counts as full, a length that is none of document 01's counts as 18, and an end is open by one
+-- word alone, so that words and arrays of any content are a state, and where that word doesn't stand they are a closed end.
 -- Assumes nothing.
 use mathlib.Core.Path.{_≡_}
+use mathlib.Core.Bool.{Bool, true, false, not}
 use mathlib.Core.List.{List, [], _∷_}
 use Prim.Native.Nat.{ℕ, min}
+use lib.Dec.{eqb}
 use lib.ListN.{length, take}
 use Rattle.basics.specs.Basics.{isSet}
 use Rattle.circle.specs.Lengths.{lengthIn, modulusOf}
@@ -17,11 +19,11 @@ use Rattle.keeper_state.specs.declared.Words.{Words}
 
 -- words whose parts that calls change are put anew
 abbrev pub wordsWith : Words → ℕ → ℕ → ℕ → ℕ → ℕ → Words
-wordsWith w base reported closed runs records = record {
+wordsWith w base reported opened runs records = record {
   bits = w .bits;
   base = base;
   reported = reported;
-  closed = closed;
+  opened = opened;
   runs = runs;
   records = records;
 }
@@ -29,27 +31,40 @@ wordsWith w base reported closed runs records = record {
 -- ... that say another base
 infixl 20 _saying-base_
 abbrev pub _saying-base_ : Words → ℕ → Words
-_saying-base_ w base = wordsWith w base (w .reported) (w .closed) (w .runs) (w .records)
+_saying-base_ w base = wordsWith w base (w .reported) (w .opened) (w .runs) (w .records)
 
 -- ... that say another reported highest
 infixl 20 _saying-reported_
 abbrev pub _saying-reported_ : Words → ℕ → Words
-_saying-reported_ w reported = wordsWith w (w .base) reported (w .closed) (w .runs) (w .records)
+_saying-reported_ w reported = wordsWith w (w .base) reported (w .opened) (w .runs) (w .records)
 
--- ... that say closed or not
-infixl 20 _saying-closed_
-abbrev pub _saying-closed_ : Words → ℕ → Words
-_saying-closed_ w closed = wordsWith w (w .base) (w .reported) closed (w .runs) (w .records)
+-- ... that say open or closed
+infixl 20 _saying-opened_
+abbrev pub _saying-opened_ : Words → ℕ → Words
+_saying-opened_ w opened = wordsWith w (w .base) (w .reported) opened (w .runs) (w .records)
 
 -- ... that say how many runs
 infixl 20 _saying-runs_
 abbrev pub _saying-runs_ : Words → ℕ → Words
-_saying-runs_ w runs = wordsWith w (w .base) (w .reported) (w .closed) runs (w .records)
+_saying-runs_ w runs = wordsWith w (w .base) (w .reported) (w .opened) runs (w .records)
 
 -- ... that say how many records
 infixl 20 _saying-records_
 abbrev pub _saying-records_ : Words → ℕ → Words
-_saying-records_ w records = wordsWith w (w .base) (w .reported) (w .closed) (w .runs) records
+_saying-records_ w records = wordsWith w (w .base) (w .reported) (w .opened) (w .runs) records
+
+-- the word by which an end is open: the letters "open", 6f70656e in hexadecimal
+abbrev pub openWord : ℕ
+openWord = 1869636974
+
+-- an end is open by that word alone: any other says closed, 0 among them
+abbrev pub isOpen : ℕ → Bool
+isOpen word = eqb word openWord
+
+-- the word of an end that is closed or open
+abbrev pub openedWord : Bool → ℕ
+openedWord true = 0
+openedWord false = openWord
 
 -- M, as the words say it
 abbrev pub modulusIn : Words → ℕ
@@ -69,7 +84,7 @@ stateOf w runs records = record {
   bits = lengthIn (w .bits);
   base = w .base;
   reported = w .reported;
-  closed = isSet (w .closed);
+  closed = not (isOpen (w .opened));
   runs = runs;
   records = records;
 }

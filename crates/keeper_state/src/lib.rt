@@ -4,7 +4,7 @@ ghost use mathlib.Core.Path.{_≡_};
 ghost use Prim.Native.Nat.{min};
 ghost use lib.ListN.{length};
 ghost use Rattle.bearer.specs.Bearer.{mostRuns, mostRecords};
-ghost use Rattle.keeper_state.specs.State.{HeldSizes, ListedSizes};
+ghost use Rattle.keeper_state.specs.State.{isOpen, openedWord, HeldSizes, ListedSizes};
 
 pub const MOST_RUNS: usize = 256;
 
@@ -15,14 +15,31 @@ pub type RecordArray = [u32; MOST_RECORDS];
 
 pub type RunArray = [u32; MOST_RUNS];
 
-// The words: L, base, the reported highest, whether the end is closed, how many runs are listed and how many records held.
+// The word by which an end is open: the letters "open".
+const OPEN: u32 = 0x6f70656e;
+
+// The words: L, base, the reported highest, whether the end is open, how many runs are listed and how many records held.
 pub struct Words {
     pub bits: u32,
     pub base: u32,
     pub reported: u32,
-    pub closed: u32,
+    pub opened: u32,
     pub runs: u32,
     pub records: u32,
+}
+
+// Whether a word says that the end is open: any word but one is a closed end's, 0 among them.
+pub fn is_open(word: u32) -> bool
+    ensures { λ r. ⌜ r ≡ isOpen word ⌝ }
+{
+    word == OPEN
+}
+
+// The word of an end that is closed or open.
+pub fn opened_word(closed: bool) -> u32
+    ensures { λ r. ⌜ r ≡ openedWord closed ⌝ }
+{
+    if closed { 0 } else { OPEN }
 }
 
 // How many records are held: a count past the end counts as full.

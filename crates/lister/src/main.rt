@@ -1,73 +1,77 @@
-// Lists the frames of standard input on standard output (document 01, its last section). All but reading and writing is
-// the crate lister_lines's.
+// Lists the frames of standard input on standard output (document 01, its last section), what came with each read before the next one. All
+// but reading and writing is the crate lister_lines's.
 ghost use Prim.Native.Nat.{_≤_};
 ghost use lib.ListN.{length};
-ghost use Rattle.program_io.specs.Places.{Ready};
 ghost use Rattle.lister_answers.specs.Answers.{mostText};
-use lister_answers::MOST_TEXT;
 use lister_lines::LineArray;
 use lister_lines::MOST_HELD;
+use program_io::say_failed;
+use program_io::write_answers;
 
-// What one read leaves to the next: how much of an unfinished line is held, the place of the output's next answer, and
-// whether to read on.
+// What one read leaves to the next: how much of an unfinished line is held, how many lines were answered, and whether to read on.
 struct State {
     held: usize,
-    at: usize,
+    lines: u64,
     more: bool,
 }
 
-// Feeds a block. Where the output can't be written there is nothing more to do.
+// Nothing more is read or answered: something failed.
+fn ended(lines: u64) -> State {
+    State {
+        held: 0,
+        lines: lines,
+        more: false,
+    }
+}
+
+// Feeds a block and writes the answers, as much at a time as the output holds.
 fn list_block(block: &[u8], line: &mut LineArray, out: &mut [u8], state: State) -> State
-    requires { ⌜ Ready (now out) (state .at) mostText ⌝ }
-    ensures { λ r. ⌜ r .at ≤ length (now (out .exit)) ⌝ }
+    requires { ⌜ mostText ≤ length (now out) ⌝ }
 {
     let mut held = state.held;
-    let mut at = state.at;
+    let mut lines = state.lines;
     let mut from = 0;
     while from < block.len() {
-        let next = program_io::next_place(out, at, MOST_TEXT);
-        if !next.written {
-            return State {
-                held: 0,
-                at: 0,
-                more: false,
-            };
-        }
-        let fed = lister_lines::feed(&block[from..], line, held, out, next.at);
+        let fed = lister_lines::feed(&block[from..], line, held, out, 0);
         from += fed.taken;
         held = fed.held;
-        at = fed.at;
+        let written = write_answers(b"lister", out, fed.at, lines);
+        lines = written.lines;
+        if !written.whole {
+            return ended(lines);
+        }
     }
     State {
         held: held,
-        at: at,
+        lines: lines,
         more: true,
     }
 }
 
-// Reads once, and feeds what came.
+// Reads once, and lists what came.
 fn list_some(block: &mut [u8], line: &mut LineArray, out: &mut [u8], state: State) -> State
-    requires { ⌜ Ready (now out) (state .at) mostText ⌝ }
-    ensures { λ r. ⌜ r .at ≤ length (now (out .exit)) ⌝ }
+    requires { ⌜ mostText ≤ length (now out) ⌝ }
 {
-    let n = program_io::read_block(block);
+    let came = program_io::read_block(block);
+    let n = came.octets;
+    if came.failed {
+        say_failed(b"lister", b"reading", state.lines);
+        return ended(state.lines);
+    }
     if n == 0 {
         return State {
             held: state.held,
-            at: state.at,
+            lines: state.lines,
             more: false,
         };
     }
     list_block(&block[..n], line, out, state)
 }
 
-// Writes what is left, with the answer to a last line without its line end.
-fn list_last(line: &LineArray, out: &mut [u8], state: State)
-    requires { ⌜ Ready (now out) (state .at) mostText ⌝ }
-{
-    let next = program_io::next_place(out, state.at, MOST_TEXT);
-    let end = lister_lines::finish(line, state.held, out, next.at);
-    program_io::write_front(out, end);
+// Writes the answer to a last line without its line end.
+fn list_last(line: &LineArray, out: &mut [u8], state: State) {
+    let end = lister_lines::finish(line, state.held, out, 0);
+    write_answers(b"lister", out, end, state.lines);
 }
 
 // Reads to the end. A proved loop has to end, and nothing says that an input does: it counts its reads down from a
@@ -77,7 +81,7 @@ fn list_all(block: &mut [u8], line: &mut LineArray, out: &mut [u8])
 {
     let mut state = State {
         held: 0,
-        at: 0,
+        lines: 0,
         more: true,
     };
     let mut reads = u64::MAX;
@@ -94,6 +98,9 @@ fn empty_line() -> LineArray {
 }
 
 fn main() {
+    if program_io::has_arguments(b"lister") {
+        return;
+    }
     let mut block = io::large_buffer();
     let mut line = empty_line();
     let mut out = io::large_buffer();

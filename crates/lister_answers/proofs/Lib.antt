@@ -1,3 +1,4 @@
 pub mod Texts
 pub mod Decoding
 pub mod Bound
+pub mod OneLine

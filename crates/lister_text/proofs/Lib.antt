@@ -4,3 +4,4 @@ pub mod Hex
 pub mod Laying
 pub mod Holding
 pub mod Unique
+pub mod LineFeeds

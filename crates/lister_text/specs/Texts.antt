@@ -10,7 +10,7 @@ use Prim.Native.String.{String}
 use Prim.Native.String as string
 use lib.Dec.{ltb, leb, eqb}
 use lib.ListN.{length, getD, take}
-use Rattle.basics.specs.Basics.{if_then_else_, all}
+use Rattle.basics.specs.Basics.{if_then_else_, bit, all}
 use Rattle.frame_layout.specs.Frames.{Range}
 
 -- ---- characters
@@ -80,6 +80,17 @@ onto c (l ∷ ls) = (c ∷ l) ∷ ls
 -- no line feed is among octets
 abbrev pub unended : List ℕ → Bool
 unended l = all (λ (c : ℕ). not (eqb c lineFeed)) l
+
+-- how many line feeds there are among octets
+abbrev pub lineFeeds : List ℕ → ℕ
+lineFeeds [] = 0
+lineFeeds (c ∷ cs) = bit (eqb c lineFeed) + lineFeeds cs
+
+-- octets are a line: a line feed stands at their end, and no other among them
+pub record IsLine (t : List ℕ) : Type 0 where
+  pub text : List ℕ
+  pub ended : t ≡ text ++ (lineFeed ∷ [])
+  pub once : unended text ≡ true
 
 -- a place of a block: the first line feed stands there, or it is the block's end and there is none
 pub record LineEnd (block : List ℕ) (i : ℕ) : Type 0 where

@@ -1,1 +1,3 @@
-pub mod Places
+pub mod Fewer
+pub mod Feeds
+pub mod Texts

@@ -1,30 +1,41 @@
-// Plays the calls of standard input on both ends of one bearer, one call a line, and prints their answers. All but reading and
-// writing is the crate replay_lines's.
+// Plays the calls of standard input on both ends of one bearer, one call a line, and prints their answers, what came with each read before
+// the next one. All but reading and writing is the crate replay_lines's.
 ghost use mathlib.Core.Path.{_≡_};
 ghost use mathlib.Core.Bool.{false};
 ghost use Prim.Native.Nat.{_≤_};
 ghost use lib.ListN.{length};
-ghost use Rattle.program_io.specs.Places.{Ready};
 ghost use Rattle.replay_states.specs.Lines.{mostText};
 use keeper::RecordArray;
 use keeper::RunArray;
 use keeper::WordArray;
+use program_io::say_failed;
+use program_io::write_answers;
 use replay_ends::Played;
 use replay_lines::LineArray;
 use replay_lines::MOST_HELD;
 use replay_lines::feed;
 use replay_lines::finish;
-use replay_states::MOST_TEXT;
 
-// What one read leaves to the next: how much of an unfinished line is held, whether to read on, and what the calls left of both
-// ends but for the keeper's arrays, with the place of the output's next answer.
+// What one read leaves to the next: how much of an unfinished line is held, how many lines were answered, whether to read on, and what the
+// calls left of both ends but for the keeper's arrays.
 struct State {
     held: usize,
+    lines: u64,
     more: bool,
     played: Played,
 }
 
-// Feeds a block. Where the output can't be written there is nothing more to do.
+// Nothing more is read or played: something failed.
+fn ended(lines: u64, played: Played) -> State {
+    State {
+        held: 0,
+        lines: lines,
+        more: false,
+        played: played,
+    }
+}
+
+// Feeds a block and writes the answers, as much at a time as the output holds.
 fn play_block(
     block: &[u8],
     line: &mut LineArray,
@@ -37,35 +48,56 @@ fn play_block(
     out: &mut [u8],
     state: State,
 ) -> State
-    requires { ⌜ Ready (now out) (state .played .at) mostText ⌝ }
-    ensures { λ r. ⌜ r .played .at ≤ length (now (out .exit)) ⌝ }
+    requires { ⌜ mostText ≤ length (now out) ⌝ }
 {
     let mut held = state.held;
+    let mut lines = state.lines;
     let mut p = state.played;
     let mut from = 0;
     while from < block.len() {
-        let next = program_io::next_place(out, p.at, MOST_TEXT);
-        p.at = next.at;
-        if !next.written {
-            return State {
-                held: 0,
-                more: false,
-                played: p,
-            };
-        }
+        p.at = 0;
         let fed = feed(&block[from..], line, held, ns, ps, cs, ss, es, w, out, p);
         from += fed.taken;
         held = fed.held;
         p = fed.played;
+        let written = write_answers(b"replay", out, p.at, lines);
+        lines = written.lines;
+        if !written.whole {
+            return ended(lines, p);
+        }
     }
     State {
         held: held,
+        lines: lines,
         more: 0 < block.len(),
         played: p,
     }
 }
 
-// Writes what is left, with the answer to a last line without its line feed.
+// Plays what a read brought. A failed one brought nothing, and ends it.
+fn play_came(
+    block: &[u8],
+    failed: bool,
+    line: &mut LineArray,
+    ns: &mut RecordArray,
+    ps: &mut RecordArray,
+    cs: &mut RecordArray,
+    ss: &mut RunArray,
+    es: &mut RunArray,
+    w: &mut WordArray,
+    out: &mut [u8],
+    state: State,
+) -> State
+    requires { ⌜ mostText ≤ length (now out) ⌝ }
+{
+    if failed {
+        say_failed(b"replay", b"reading", state.lines);
+        return ended(state.lines, state.played);
+    }
+    play_block(block, line, ns, ps, cs, ss, es, w, out, state)
+}
+
+// Writes the answer to a last line without its line feed.
 fn play_last(
     line: &mut LineArray,
     ns: &mut RecordArray,
@@ -76,18 +108,12 @@ fn play_last(
     w: &mut WordArray,
     out: &mut [u8],
     state: State,
-)
-    requires { ⌜ Ready (now out) (state .played .at) mostText ⌝ }
-{
+) {
     let mut p = state.played;
-    let next = program_io::next_place(out, p.at, MOST_TEXT);
-    p.at = next.at;
-    if !next.written {
-        return;
-    }
+    p.at = 0;
     let held = state.held;
     let fed = finish(line, held, ns, ps, cs, ss, es, w, out, p);
-    program_io::write_front(out, fed.played.at);
+    write_answers(b"replay", out, fed.played.at, state.lines);
 }
 
 // Before any open: ends that no call reaches.
@@ -98,6 +124,7 @@ fn unopened() -> State
     let l = none.ledger;
     State {
         held: 0,
+        lines: 0,
         more: true,
         played: Played {
             at: 0,
@@ -133,9 +160,10 @@ fn play_all(block: &mut [u8], line: &mut LineArray, out: &mut [u8])
     let mut state = unopened();
     let mut reads = u64::MAX;
     while 0 < reads {
-        let n = program_io::read_block(block);
-        state = play_block(
-            basics::front(block, n),
+        let came = program_io::read_block(block);
+        state = play_came(
+            basics::front(block, came.octets),
+            came.failed,
             line,
             &mut ns,
             &mut ps,
@@ -167,6 +195,9 @@ fn empty_line() -> LineArray {
 }
 
 fn main() {
+    if program_io::has_arguments(b"replay") {
+        return;
+    }
     let mut block = io::large_buffer();
     let mut line = empty_line();
     let mut out = io::large_buffer();

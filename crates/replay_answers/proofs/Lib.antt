@@ -1,1 +1,2 @@
 pub mod Hexadecimal
+pub mod OneLine

@@ -1,5 +1,5 @@
 -- A script that is fed in blocks of any sizes, into an output of any room before each call, prints what its lines' calls answer one
--- after another.
+-- after another; and how much of that was written tells how many lines were answered.
 -- Assumes nothing.
 use mathlib.Core.Path.{_≡_, refl, ap₂}
 use mathlib.Core.Bool.{true, false}
@@ -11,6 +11,7 @@ use Rattle.bearer.specs.Ledger as master
 use Rattle.program_lines.specs.Lines.{linesOf, answers}
 use Rattle.program_lines.specs.Feeding.{roomFor, feeding, lastOf}
 use Rattle.program_lines.proofs.Blocks.{calls-answer}
+use Rattle.program_lines.proofs.Fronts.{lines-count}
 use Rattle.replay_calls.specs.Calls.{readCall}
 use Rattle.replay_calls.specs.declared.Call.{Call}
 use Rattle.replay_calls.specs.declared.Call.the-variants.{Open, Keeper, Ledger, Unreadable}
@@ -18,15 +19,21 @@ use Rattle.replay_answers.specs.declared.Answer.the-variants.{Unopened}
 use Rattle.replay_ends.specs.Steps.{Step, answered}
 use Rattle.replay_ends.specs.Playing.{Ends, opening, play}
 use Rattle.replay_ends.proofs.Steps.{plays-unopened}
-use Rattle.replay_lines.specs.Scripts.{frameIn, playLine, replaying, ScriptsPlay, UnopenedPrint}
+use Rattle.replay_lines.specs.Scripts.{frameIn, playLine, replaying, ScriptsPlay, ScriptsCount, UnopenedPrint}
 use Rattle.replay_lines.specs.Feeding.{ending}
 use Rattle.replay_lines.proofs.Lines.{line-tells}
+use Rattle.replay_lines.proofs.OneLine.{play-line}
 
 -- ---- the script whole
 
 -- Whatever the blocks and the rooms were, what was said and the last line's answer are what the script prints, from any ends on.
 pub scripts-play : ScriptsPlay
 scripts-play = calls-answer replaying line-tells
+
+-- Each answer is a line, and a front of that is the answers to as many lines as it has line feeds, and a part of the next one.
+pub scripts-count : ScriptsCount
+unfolding playLine
+scripts-count = lines-count replaying (λ e l. play-line e (readCall l) (frameIn l))
 
 -- that answer is said where a last line is fed the line feed that it lacks, and there is room
 pub last-said : (room : ℕ) (e : Ends) (last : List ℕ) → roomFor replaying room ≡ true → feeding replaying room e last (ending last) .said ≡ lastOf replaying e last

@@ -1,3 +1,4 @@
 pub mod Lines
 pub mod Turns
 pub mod Blocks
+pub mod OneLine

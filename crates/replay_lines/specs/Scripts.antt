@@ -7,7 +7,7 @@ use mathlib.Core.List.{List}
 use Prim.Native.Nat.{ℕ}
 use lib.ListN.{replicate}
 use Rattle.frame_layout.specs.Frames.{mostOctets}
-use Rattle.program_lines.specs.Lines.{Answering, linesOf, answers}
+use Rattle.program_lines.specs.Lines.{Answering, linesOf, answers, LinesCount}
 use Rattle.program_lines.specs.Feeding.{CallsAnswer}
 use Rattle.replay_calls.specs.Calls.{readCall, frameAfter}
 use Rattle.replay_calls.specs.Bound.{mostLine}
@@ -36,10 +36,16 @@ replaying = record {
 abbrev pub printed : Ends → List ℕ → List ℕ
 printed e script = answers replaying e (linesOf script)
 
--- The statements, proved in proofs/Blocks.antt: a script that is fed in blocks of any sizes, into an output of any room, prints that; and what
--- ends hold that are not opened changes nothing of it.
+-- ---- the statements, proved in proofs/Blocks.antt
+
+-- A script that is fed in blocks of any sizes, into an output of any room, prints that.
 abbrev pub ScriptsPlay : Type 0
 ScriptsPlay = CallsAnswer replaying
 
+-- Each line is answered by one, so where a front of it was written, as many lines were answered as that has line feeds.
+abbrev pub ScriptsCount : Type 0
+ScriptsCount = LinesCount replaying
+
+-- What ends hold that are not opened changes nothing of it.
 abbrev pub UnopenedPrint : Type 0
 UnopenedPrint = (e f : Ends) (script : List ℕ) → e .opened ≡ false → f .opened ≡ false → printed e script ≡ printed f script

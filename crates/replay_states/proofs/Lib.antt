@@ -1,3 +1,4 @@
 pub mod Saying
 pub mod Elements
 pub mod Shown
+pub mod OneLine

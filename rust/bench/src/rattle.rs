@@ -1,7 +1,7 @@
 //! The product through its C boundary, as a [`Side`].
 
 use crate::{Form, List, REPORT, Report, Side};
-use boundary::{Keeper, Room};
+use boundary::{Fields, Keeper, Range, Room};
 
 /// The product.
 pub struct Rattle;
@@ -12,30 +12,35 @@ impl Side for Rattle {
 
     #[inline(never)]
     fn read(octets: &[u8]) -> i64 {
-        let mut fields = [0; boundary::FIELDS];
+        let mut fields = Fields::default();
         let (mut starts, mut ends) = (Room::uninit(), Room::uninit());
         let (kind, starts, ends) = boundary::read_all(octets, &mut fields, &mut starts, &mut ends);
         match kind {
             1 | 2 => {
                 let ranges = starts.iter().zip(ends);
                 let sum: i64 = ranges.map(|(&s, &e)| i64::from(s) + i64::from(e)).sum();
-                sum + i64::from(fields[0]) + i64::from(fields[1]) + i64::from(fields[2])
+                sum + i64::from(fields.highest)
+                    + i64::from(fields.desired)
+                    + i64::from(fields.minimum)
             }
-            0.. => i64::from(fields[0]),
+            0.. => i64::from(fields.number),
             _ => kind,
         }
     }
 
     #[inline(never)]
     fn read_apart(octets: &[u8]) -> i64 {
-        let mut fields = [0; boundary::FIELDS];
+        let mut fields = Fields::default();
         match boundary::read(octets, &mut fields) {
             1 | 2 => {
                 // With no ranges there is nothing to walk.
-                let ranges = if fields[4] > 0 { walked(octets) } else { 0 };
-                ranges + i64::from(fields[0]) + i64::from(fields[1]) + i64::from(fields[2])
+                let ranges = if fields.ranges > 0 { walked(octets) } else { 0 };
+                ranges
+                    + i64::from(fields.highest)
+                    + i64::from(fields.desired)
+                    + i64::from(fields.minimum)
             }
-            0.. => i64::from(fields[0]),
+            0.. => i64::from(fields.number),
             refusal => refusal,
         }
     }
@@ -99,12 +104,12 @@ impl Side for Rattle {
 
 /// The sum over all ranges, taken one after another.
 fn walked(octets: &[u8]) -> i64 {
-    let (mut cursor, mut range) = ([0; boundary::CURSOR], [0; boundary::RANGE]);
+    let (mut cursor, mut range) = ([0; boundary::CURSOR], Range::default());
     let mut sum = 0;
     boundary::first_range(octets, &mut cursor);
     while boundary::next_range(octets, &mut cursor, &mut range) == 1 {
-        sum += i64::from(range[0]);
-        sum += i64::from(range[1]);
+        sum += i64::from(range.start);
+        sum += i64::from(range.end);
     }
     sum
 }

@@ -9,7 +9,7 @@ use std::mem::MaybeUninit;
 /// Reads a frame: its type, or the refusal below zero.
 #[inline]
 pub fn read(frame: &[u8], fields: &mut Fields) -> i64 {
-    // SAFETY: pointer and length are those of one slice, `fields` is an array.
+    // SAFETY: pointer and length are those of one slice, `fields` is a struct.
     unsafe { foreign::x2u_read(frame.as_ptr(), frame.len(), fields) }
 }
 
@@ -31,7 +31,7 @@ pub fn read_all<'a>(
         foreign::x2u_read_all(frame.as_ptr(), frame.len(), fields, starts, ends)
     };
     let count = if kind == 1 || kind == 2 {
-        fields[4] as usize
+        fields.ranges as usize
     } else {
         0
     };
@@ -81,7 +81,7 @@ pub fn write_status(
     let [highest, desired, minimum] = head;
     // SAFETY: pointers and lengths are those of three slices that don't overlap.
     unsafe {
-        foreign::x2u_write_status(
+        foreign::x2u_write_status_parts(
             long.into(),
             last.into(),
             highest,
@@ -110,7 +110,7 @@ pub struct Keeper {
     pub starts: Runs,
     /// Their ends.
     pub ends: Runs,
-    /// L, base, reported highest, closed, how many runs, how many records.
+    /// L, base, reported highest, open or not, how many runs, how many records.
     pub words: Words,
 }
 

@@ -1,12 +1,8 @@
 //! The declarations, as the product's header has them.
 #![allow(unsafe_code)]
 
-/// The fields of a frame, as numbers.
-pub const FIELDS: usize = 6;
 /// The words of a cursor.
 pub const CURSOR: usize = 3;
-/// The ends of a range.
-pub const RANGE: usize = 2;
 /// The most ranges of a status.
 pub const MOST_RANGES: usize = 162;
 /// The records that a keeper holds.
@@ -15,13 +11,39 @@ pub const MOST_RECORDS: usize = 512;
 pub const MOST_RUNS: usize = 256;
 /// Its words.
 pub const WORDS: usize = 6;
+/// The fourth of them, where the end is open; any other number is closed.
+pub const OPEN: u32 = 0x6f70_656e;
 
-/// What is lent for a frame's fields.
-pub type Fields = [u32; FIELDS];
+/// What is lent for a frame's fields; what a frame hasn't is 0.
+#[repr(C)]
+#[derive(Clone, Copy, Debug, Default, PartialEq, Eq)]
+pub struct Fields {
+    /// The X2-U number of data.
+    pub number: u32,
+    /// A status's highest PDCP number.
+    pub highest: u32,
+    /// Its desired size.
+    pub desired: u32,
+    /// Its minimum size.
+    pub minimum: u32,
+    /// Its Final, 0 or 1.
+    pub is_final: u32,
+    /// How many ranges it has.
+    pub ranges: u32,
+}
+
+/// What is lent for a range.
+#[repr(C)]
+#[derive(Clone, Copy, Debug, Default, PartialEq, Eq)]
+pub struct Range {
+    /// Its first number.
+    pub start: u32,
+    /// Its last.
+    pub end: u32,
+}
+
 /// What is lent for a cursor.
 pub type Cursor = [u32; CURSOR];
-/// What is lent for a range.
-pub type Range = [u32; RANGE];
 /// What is lent for one end of each range of a status.
 pub type Ranges = [u32; MOST_RANGES];
 /// A number of each record.
@@ -48,7 +70,7 @@ unsafe extern "C" {
         range: *mut Range,
     ) -> i64;
     pub fn x2u_write_data(long: u32, number: u32, dst: *mut u8, dst_len: usize) -> i64;
-    pub fn x2u_write_status(
+    pub fn x2u_write_status_parts(
         long: u32,
         last: u32,
         highest: u32,

@@ -16,6 +16,6 @@ mod probe;
 #[cfg(feature = "product")]
 pub use calls::{Keeper, Room, first_range, next_range, read, read_all, write_data, write_status};
 #[cfg(feature = "product")]
-pub use foreign::{CURSOR, Cursor, FIELDS, Fields, MOST_RECORDS, MOST_RUNS, RANGE, Words};
+pub use foreign::{CURSOR, Cursor, Fields, MOST_RECORDS, MOST_RUNS, OPEN, Range, Words};
 #[cfg(feature = "probe")]
 pub use probe::{ledger_accepts, ledger_sends};

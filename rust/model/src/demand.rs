@@ -143,6 +143,13 @@ impl Watch {
         newer < self.opening.numbers() / 2
     }
 
+    /// The `count` packets that were declared lost last, of those in no frame
+    /// yet, in sending order.
+    pub fn last_lost(&self, count: u32) -> impl Iterator<Item = usize> + '_ {
+        let from = self.unreported.len().saturating_sub(count as usize);
+        self.unreported.range(from..).copied()
+    }
+
     /// The figures so far.
     #[must_use]
     pub fn tally(&self) -> Tally {

@@ -44,10 +44,24 @@ struct Reading {
     ranges: Vec<Range>,
 }
 
+/// What stands in the memory that a call is lent.
+const LENT: boundary::Fields = boundary::Fields {
+    number: FILL,
+    highest: FILL,
+    desired: FILL,
+    minimum: FILL,
+    is_final: FILL,
+    ranges: FILL,
+};
+const LENT_RANGE: boundary::Range = boundary::Range {
+    start: FILL,
+    end: FILL,
+};
+
 fn read_by_product(octets: &[u8]) -> Result<Reading, String> {
-    let mut fields = [FILL; boundary::FIELDS];
+    let mut fields = LENT;
     let answer = boundary::read(octets, &mut fields);
-    let mut fields_of_all = [FILL; boundary::FIELDS];
+    let mut fields_of_all = LENT;
     let (mut starts, mut ends) = (boundary::Room::uninit(), boundary::Room::uninit());
     let (all, starts, ends) =
         boundary::read_all(octets, &mut fields_of_all, &mut starts, &mut ends);
@@ -68,9 +82,9 @@ fn read_by_product(octets: &[u8]) -> Result<Reading, String> {
             ranges,
         });
     }
-    let mut range = [FILL; boundary::RANGE];
+    let mut range = LENT_RANGE;
     while boundary::next_range(octets, &mut cursor, &mut range) == 1 {
-        let [start, end] = range;
+        let (start, end) = (range.start, range.end);
         ranges.push(Range { start, end });
         if ranges.len() > MOST_RANGES {
             return Err("the walk over the ranges doesn't end".to_owned());
@@ -96,17 +110,25 @@ fn read_by_product(octets: &[u8]) -> Result<Reading, String> {
     })
 }
 
+/// The fields of a data frame: its number alone.
+fn data_fields(number: u32) -> boundary::Fields {
+    boundary::Fields {
+        number,
+        ..boundary::Fields::default()
+    }
+}
+
 fn read_by_library(octets: &[u8]) -> Reading {
     match frame::read(octets) {
         Frame::Refused(refusal) => Reading {
             answer: number::<u32>(Err(refusal)),
-            fields: [FILL; boundary::FIELDS],
+            fields: LENT,
             first: number::<u32>(Err(refusal)),
             ranges: Vec::new(),
         },
         Frame::Data { form, number } => Reading {
             answer: if form == Form::Long { 3 } else { 0 },
-            fields: [number, 0, 0, 0, 0, 0],
+            fields: data_fields(number),
             first: 0,
             ranges: Vec::new(),
         },
@@ -116,14 +138,14 @@ fn read_by_library(octets: &[u8]) -> Reading {
             ranges,
         } => Reading {
             answer: if form == Form::Long { 2 } else { 1 },
-            fields: [
-                report.highest,
-                report.desired,
-                report.minimum,
-                report.is_final.into(),
-                ranges.len() as u32,
-                0,
-            ],
+            fields: boundary::Fields {
+                number: 0,
+                highest: report.highest,
+                desired: report.desired,
+                minimum: report.minimum,
+                is_final: report.is_final.into(),
+                ranges: ranges.len() as u32,
+            },
             first: ranges.len() as i64,
             ranges: ranges.collect(),
         },
@@ -305,16 +327,16 @@ pub fn written_is_read(layout: &Layout) -> Verdict {
     let count = layout.ranges.len() as u32;
     let fields = if order.is_status {
         let [desired, minimum] = layout.sizes;
-        [
-            layout.number,
+        boundary::Fields {
+            number: 0,
+            highest: layout.number,
             desired,
             minimum,
-            layout.last.into(),
-            count,
-            0,
-        ]
+            is_final: layout.last.into(),
+            ranges: count,
+        }
     } else {
-        [layout.number, 0, 0, 0, 0, 0]
+        data_fields(layout.number)
     };
     same!("fields", fields, reading.fields);
     let pairs = reading.ranges.iter().map(|range| (range.start, range.end));
@@ -327,13 +349,18 @@ pub fn written_is_read(layout: &Layout) -> Verdict {
 pub fn read_is_written(layout: &Layout) -> Verdict {
     let octets = layout.octets().0;
     let reading = read_by_product(&octets)?;
-    let [number, desired, minimum, last, ..] = reading.fields;
+    let fields = reading.fields;
+    let is_status = reading.answer == 1 || reading.answer == 2;
     let order = Order {
         long: reading.answer >= 2,
-        is_status: reading.answer == 1 || reading.answer == 2,
-        last: last == 1,
-        number,
-        sizes: [desired, minimum],
+        is_status,
+        last: fields.is_final == 1,
+        number: if is_status {
+            fields.highest
+        } else {
+            fields.number
+        },
+        sizes: [fields.desired, fields.minimum],
         starts: reading.ranges.iter().map(|range| range.start).collect(),
         ends: reading.ranges.iter().map(|range| range.end).collect(),
         room: Room::Near(0),
@@ -359,7 +386,7 @@ fn order_of(layout: &Layout) -> Order {
 
 /// A walk begun anywhere ends within the frame and answers 0 or 1.
 pub fn walks_anywhere((octets, cursor): &(Octets, boundary::Cursor)) -> Verdict {
-    let (mut cursor, mut range) = (*cursor, [FILL; boundary::RANGE]);
+    let (mut cursor, mut range) = (*cursor, LENT_RANGE);
     // A range takes four octets at least.
     for _ in 0..=octets.0.len() / 4 {
         let before = (cursor, range);

@@ -3,7 +3,7 @@
 
 use crate::scripts::Script;
 use crate::suite::Verdict;
-use boundary::{MOST_RECORDS, MOST_RUNS};
+use boundary::{MOST_RECORDS, MOST_RUNS, OPEN};
 use programs::replay::{Call, MOST_ROOM};
 use proptest::prelude::*;
 use soak::table::Table;
@@ -52,7 +52,8 @@ pub fn alike(script: &Script, table: &mut Table) -> Result<u64, String> {
 }
 
 impl Both {
-    /// Makes a call, if it is one on an open keeper, or an open.
+    /// Makes a call, if it is one on a keeper: one that was never opened is
+    /// closed.
     fn make(&mut self, call: &Call<'_>) -> Result<Option<(&'static str, i64)>, String> {
         let before = self.product.clone();
         let (word, wanted, got) = match *call {
@@ -64,7 +65,7 @@ impl Both {
                 }
                 ("open", wanted, self.product.open(length, first, pdcp))
             }
-            _ => match self.on_open(call)? {
+            _ => match self.other(call)? {
                 Some(made) => made,
                 None => return Ok(None),
             },
@@ -84,16 +85,24 @@ impl Both {
         Ok(Some((word, got)))
     }
 
-    fn on_open(&mut self, call: &Call<'_>) -> Result<Option<Made>, String> {
-        let (Some(library), product) = (&mut self.library, &mut self.product) else {
-            return Ok(None);
-        };
+    fn other(&mut self, call: &Call<'_>) -> Result<Option<Made>, String> {
+        let (library, product) = (&mut self.library, &mut self.product);
+        let closed = Err(Refusal::Closed);
+        let library = library.as_mut();
         Ok(Some(match *call {
-            Call::Arrive([n, p]) => ("arrive", library.arrive(n, p), product.arrive(n, p)),
-            Call::Expire => ("expire", library.expire(), product.expire()),
+            Call::Arrive([n, p]) => (
+                "arrive",
+                library.map_or(closed, |end| end.arrive(n, p)),
+                product.arrive(n, p),
+            ),
+            Call::Expire => (
+                "expire",
+                library.map_or(closed, |end| end.expire()),
+                product.expire(),
+            ),
             Call::Confirm(n) => (
                 "confirm",
-                library.confirm(n).map(|()| 0),
+                library.map_or(closed, |end| end.confirm(n).map(|()| 0)),
                 product.confirm(n),
             ),
             Call::Status {
@@ -104,7 +113,9 @@ impl Both {
             } => {
                 let mut lent = [[0x5A; MOST_ROOM]; 2];
                 let [ours, theirs] = &mut lent;
-                let wanted = library.status(desired, minimum, is_final, &mut ours[..room]);
+                let wanted = library.map_or(Err(Refusal::Closed), |end| {
+                    end.status(desired, minimum, is_final, &mut ours[..room])
+                });
                 let got = product.status(desired, minimum, is_final, &mut theirs[..room]);
                 if ours != theirs {
                     return Err(format!("{call:?}: the buffers differ"));
@@ -121,15 +132,15 @@ impl Both {
             return Ok(());
         };
         let product = &*self.product;
-        let [_, base, reported, closed, runs, records] = product.words;
+        let [_, base, reported, opened, runs, records] = product.words;
         let wanted = [
             library.base(),
             library.reported_highest(),
-            library.is_closed().into(),
+            if library.is_closed() { 0 } else { OPEN },
             library.listed_runs().len() as u32,
             library.record_count() as u32,
         ];
-        let got = [base, reported, closed, runs, records];
+        let got = [base, reported, opened, runs, records];
         if wanted != got {
             return Err(format!(
                 "the library's words are {wanted:?}, the product's {got:?}"
@@ -192,27 +203,33 @@ pub fn garbage() -> impl Strategy<Value = Garbage> {
     (
         word(),
         places,
-        (words, lengths),
+        (words, lengths, any::<bool>()),
         word(),
         word(),
         0_usize..1_020,
     )
-        .prop_map(|(fill, places, (words, length), number, pdcp, room)| {
-            let mut words = words;
-            words[0] = length;
-            Garbage {
-                fill,
-                places,
-                words,
-                number,
-                pdcp,
-                room,
-            }
-        })
+        .prop_map(
+            |(fill, places, (words, length, open), number, pdcp, room)| {
+                let mut words = words;
+                words[0] = length;
+                if open {
+                    words[3] = OPEN;
+                }
+                Garbage {
+                    fill,
+                    places,
+                    words,
+                    number,
+                    pdcp,
+                    room,
+                }
+            },
+        )
 }
 
-/// Every call on garbage answers something that it may, and a refusal changes
-/// nothing. Answers how many calls that were.
+/// Every call on garbage answers something that it may, 9 exactly where one
+/// word doesn't say open, and a refusal changes nothing. Answers how many calls
+/// that were.
 pub fn survives(garbage: &Garbage) -> Result<u64, String> {
     let mut state = Box::new(boundary::Keeper::of(garbage.fill));
     for &(place, word) in &garbage.places {
@@ -249,6 +266,12 @@ pub fn survives(garbage: &Garbage) -> Result<u64, String> {
             .any(|refusal| -i64::from(refusal.number()) == answer);
         if answer < 0 && !known {
             return Err(format!("{word} answers {answer}"));
+        }
+        if word != "open" && (answer == -9) != (state.words[3] != OPEN) {
+            let opened = state.words[3];
+            return Err(format!(
+                "{word} answers {answer}, and the word that says open is {opened:#x}"
+            ));
         }
         if answer < 0 && after != state {
             return Err(format!(

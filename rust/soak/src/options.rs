@@ -1,6 +1,7 @@
 //! Command lines of `--name value` pairs and plain words.
 
 use std::collections::BTreeMap;
+use std::path::PathBuf;
 use std::str::FromStr;
 
 /// A command line, taken apart.
@@ -12,8 +13,13 @@ pub struct Options {
 }
 
 impl Options {
-    /// Takes a command line apart; only `known` names may stand in it.
-    pub fn of(arguments: impl IntoIterator<Item = String>, known: &[&str]) -> Result<Self, String> {
+    /// Takes a command line apart. Only `known` names may stand in it with a
+    /// value, and `flags` without one.
+    pub fn of(
+        arguments: impl IntoIterator<Item = String>,
+        known: &[&str],
+        flags: &[&str],
+    ) -> Result<Self, String> {
         let mut options = Self::default();
         let mut arguments = arguments.into_iter();
         while let Some(argument) = arguments.next() {
@@ -21,14 +27,29 @@ impl Options {
                 options.words.push(argument);
                 continue;
             };
-            if !known.contains(&name) {
+            let value = if flags.contains(&name) {
+                String::new()
+            } else if known.contains(&name) {
+                let value = arguments.next().filter(|value| !value.starts_with("--"));
+                value.ok_or_else(|| format!("--{name} needs a value"))?
+            } else {
                 return Err(format!("there is no option --{name}"));
-            }
-            let value = arguments.next();
-            let value = value.ok_or_else(|| format!("--{name} needs a value"))?;
+            };
             options.named.insert(name.to_owned(), value);
         }
         Ok(options)
+    }
+
+    /// Whether an option is given.
+    #[must_use]
+    pub fn has(&self, name: &str) -> bool {
+        self.named.contains_key(name)
+    }
+
+    /// The value of an option as a path.
+    #[must_use]
+    pub fn path(&self, name: &str) -> Option<PathBuf> {
+        self.named.get(name).map(PathBuf::from)
     }
 
     /// The value of an option, or `otherwise` if it isn't given.

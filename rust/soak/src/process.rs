@@ -3,7 +3,7 @@
 use std::fs;
 use std::io::{Read, Write};
 use std::path::Path;
-use std::process::{Child, Command, Stdio};
+use std::process::{Child, Command, ExitStatus, Stdio};
 use std::sync::mpsc;
 use std::thread;
 use std::time::{Duration, Instant};
@@ -103,6 +103,60 @@ fn hangs(child: &Child, finished: &mpsc::Receiver<()>, limits: &Limits) -> Optio
         }
     }
     None
+}
+
+/// How a program ended, if it does so in time.
+pub fn ended_within(child: &mut Child, time: Duration) -> Option<ExitStatus> {
+    let until = Instant::now() + time;
+    loop {
+        match child.try_wait() {
+            Ok(Some(status)) => return Some(status),
+            Ok(None) if Instant::now() < until => thread::sleep(Duration::from_millis(1)),
+            _ => return None,
+        }
+    }
+}
+
+/// Ends a program, with all that it has started and that still runs under it.
+pub fn end_tree(child: &mut Child) {
+    let below = descendants(child.id());
+    let _ = child.kill();
+    let _ = child.wait();
+    if !below.is_empty() {
+        let mut kill = Command::new("sh");
+        kill.args(["-c", "kill -KILL \"$@\"", "sh"]).args(below);
+        let _ = kill.stderr(Stdio::null()).status();
+    }
+}
+
+/// The processes below one, as /proc tells their parents.
+fn descendants(id: u32) -> Vec<String> {
+    let processes = fs::read_dir("/proc").into_iter().flatten().flatten();
+    let named = processes.filter_map(|entry| entry.file_name().into_string().ok());
+    let pairs: Vec<(String, String)> = named
+        .filter_map(|name| Some((parent(&name)?, name)))
+        .collect();
+    let mut found = vec![id.to_string()];
+    let mut next = 0;
+    while next < found.len() {
+        let of = found[next].clone();
+        found.extend(
+            pairs
+                .iter()
+                .filter(|(parent, _)| *parent == of)
+                .map(|(_, name)| name.clone()),
+        );
+        next += 1;
+    }
+    found.split_off(1)
+}
+
+/// A process's parent.
+fn parent(name: &str) -> Option<String> {
+    name.parse::<u32>().ok()?;
+    let stat = fs::read_to_string(format!("/proc/{name}/stat")).ok()?;
+    let fields = stat.rsplit(')').next()?;
+    fields.split_whitespace().nth(1).map(str::to_owned)
 }
 
 /// The processor time that a process has used, as /proc says: the 14th and

@@ -41,6 +41,16 @@ impl Table {
         calls.map_or(0, |calls| calls.values().sum())
     }
 
+    /// How often a refusal was given to the calls of that word.
+    #[must_use]
+    pub fn times_to(&self, word: &str, refusal: Refusal) -> u64 {
+        let calls = self.refused.get(&u32::from(refusal.number()));
+        calls
+            .and_then(|calls| calls.get(word))
+            .copied()
+            .unwrap_or(0)
+    }
+
     /// The refusals of `all` that were never given.
     #[must_use]
     pub fn missing(&self, all: impl IntoIterator<Item = Refusal>) -> Vec<Refusal> {

@@ -25,14 +25,22 @@ fn folder(name: &str) -> PathBuf {
     folder
 }
 
-/// A program like `name`, but for what `sed` does to its answers.
-fn liar(folder: &Path, name: &str, sed: &str) -> PathBuf {
+/// A shell script as a program.
+fn script(folder: &Path, name: &str, text: &str) -> PathBuf {
     let path = folder.join(name);
-    let honest = sibling(name);
-    let text = format!("#!/bin/sh\n'{}' | sed '{sed}'\n", honest.display());
-    fs::write(&path, text).unwrap();
+    fs::write(&path, format!("#!/bin/sh\n{text}\n")).unwrap();
     fs::set_permissions(&path, fs::Permissions::from_mode(0o755)).unwrap();
     path
+}
+
+/// A program like `name`, but for what `sed` does to its answers.
+fn liar(folder: &Path, name: &str, sed: &str) -> PathBuf {
+    let honest = sibling(name);
+    script(
+        folder,
+        name,
+        &format!("'{}' | sed '{sed}'", honest.display()),
+    )
 }
 
 fn run(program: &str, folder: &Path, arguments: &[&str]) -> Output {
@@ -91,42 +99,100 @@ fn a_frame_is_shrunk_too() {
     assert!(line.len() <= 2 * 18 + 1, "{line}");
 }
 
+/// Plays half a minute of the ramp on a program, with its report and its chart
+/// in `folder`. Answers the exit code and the report.
+fn ramp(folder: &Path, program: &Path, options: &[&str]) -> (Option<i32>, String) {
+    let files = ["--report", "ramp.txt", "--chart", "ramp.svg", "--force"];
+    let arguments = [&[text(program), "--minutes", "0.5"], options, &files].concat();
+    let output = run(RAMP, folder, &arguments);
+    let report = fs::read_to_string(folder.join("ramp.txt")).unwrap();
+    (output.status.code(), report)
+}
+
 #[test]
 fn a_short_ramp_passes_and_is_drawn() {
     let folder = folder("ramp");
-    let program = sibling("replay");
     for bits in ["12", "15", "18"] {
-        let output = run(
-            RAMP,
-            &folder,
-            &[text(&program), "--bits", bits, "--minutes", "0.5"],
-        );
-        assert!(output.status.success(), "{output:?}");
-        let report = fs::read_to_string(folder.join("ramp.txt")).unwrap();
-        assert!(report.contains("Result: PASSED"));
+        let (code, report) = ramp(&folder, &sibling("replay"), &["--bits", bits]);
+        assert_eq!(code, Some(0), "{report}");
+        assert!(report.contains("Result: PASSED at 2,000 packets a second, as asked for"));
         let chart = fs::read_to_string(folder.join("ramp.svg")).unwrap();
         assert!(chart.starts_with("<svg") && chart.trim_end().ends_with("</svg>"));
     }
 }
 
 #[test]
+fn a_rate_that_is_not_reached_is_told() {
+    let folder = folder("slow");
+    let (code, report) = ramp(&folder, &sibling("replay"), &["--rate", "50000"]);
+    assert_eq!(code, Some(3), "{report}");
+    assert!(report.contains("the 50,000 asked for were not reached"));
+}
+
+#[test]
 fn a_wrong_answer_fails_the_ramp() {
     let folder = folder("failing");
     let liar = liar(&folder, "replay", "9000s/$/0/");
-    let output = run(RAMP, &folder, &[text(&liar), "--minutes", "0.5"]);
-    assert_eq!(output.status.code(), Some(1), "{output:?}");
-    let report = fs::read_to_string(folder.join("ramp.txt")).unwrap();
+    let (code, report) = ramp(&folder, &liar, &[]);
+    assert_eq!(code, Some(1), "{report}");
     assert!(report.contains("Result: FAILED") && report.contains("Call 9000:"));
+}
+
+#[test]
+fn a_program_that_hangs_fails_the_ramp() {
+    let folder = folder("hanging");
+    let hanging = script(&folder, "hanging", "exec sleep 600");
+    let (code, report) = ramp(&folder, &hanging, &["--patience", "1"]);
+    assert_eq!(code, Some(1), "{report}");
+    assert!(
+        report.contains("Result: FAILED: call 1 got no answer"),
+        "{report}"
+    );
+}
+
+#[test]
+fn a_program_that_is_not_there_fails_the_ramp() {
+    let folder = folder("missing");
+    let (code, report) = ramp(&folder, Path::new("no-such-program"), &[]);
+    assert_eq!(code, Some(1), "{report}");
+    assert!(report.contains("can't be started"));
+}
+
+#[test]
+fn reports_do_not_overwrite_each_other() {
+    let folder = folder("kept");
+    let program = sibling("replay");
+    let before = fs::read_dir(&folder).unwrap().count();
+    for _ in 0..2 {
+        let output = run(RAMP, &folder, &[text(&program), "--minutes", "0.02"]);
+        assert!(output.status.success(), "{output:?}");
+    }
+    assert_eq!(fs::read_dir(&folder).unwrap().count(), before + 4);
+    fs::write(folder.join("old.txt"), "old").unwrap();
+    let again = [text(&program), "--minutes", "0.02", "--report", "old.txt"];
+    assert_eq!(run(RAMP, &folder, &again).status.code(), Some(2));
+    let astray = ["--chart", "no/such/folder/c.svg", "--force"];
+    let again = [&again[..], &astray].concat();
+    assert_eq!(run(RAMP, &folder, &again).status.code(), Some(2));
+    assert_eq!(fs::read_to_string(folder.join("old.txt")).unwrap(), "old");
 }
 
 #[test]
 fn wrong_use_is_told() {
     let folder = folder("wrong");
     assert_eq!(run(COMPARE, &folder, &[]).status.code(), Some(2));
-    assert_eq!(
-        run(RAMP, &folder, &["no-such-program"]).status.code(),
-        Some(2)
-    );
-    let odd = ["replay", "--bits", "13"];
-    assert_eq!(run(RAMP, &folder, &odd).status.code(), Some(2));
+    for wrong in [
+        &["replay", "--bits", "13"][..],
+        &["replay", "--rate", "0"],
+        &["replay", "--minutes", "0"],
+        &["replay", "--seed"],
+        &["replay", "--frob", "1"],
+        &["replay", "--all", "--seed", "1"],
+        &["replay", "another"],
+        &["replay", "--report", "no/such/folder/r.txt"],
+        &[],
+    ] {
+        let output = run(RAMP, &folder, wrong);
+        assert_eq!(output.status.code(), Some(2), "{wrong:?}: {output:?}");
+    }
 }

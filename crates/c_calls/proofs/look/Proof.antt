@@ -69,7 +69,7 @@ returns-2 c =
     let a = start (d .before .before) .args in
     let h = d .head .given .0 .0 in
     let e = sym (ap (readingOf (a .frame .now)) (d .head .given .1)) ∙ d .before .before .read .ensures in
-    let fields = ap (λ (b : ℕ). h .highest ∷ h .desired ∷ h .minimum ∷ b ∷ h .count ∷ 0 ∷ []) (flag .flag .ensures) in (
+    let fields = ap (λ (b : ℕ). 0 ∷ h .highest ∷ h .desired ∷ h .minimum ∷ b ∷ h .count ∷ []) (flag .flag .ensures) in (
       c .status-type .ensures .0 ∙ ap kindOf e,
       ap refusalOf e,
       put .put-fields2 .ensures ∙ fields ∙ status-fields (a .frame .now) (a .fields .now) h ∙ ap (fieldsOf (a .fields .now)) e,

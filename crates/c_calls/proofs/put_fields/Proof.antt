@@ -29,7 +29,9 @@ same-length : tie.Need-same-length
 same-length c = search needs
 
 returns : tie.Need-returns
-returns c = whole (c .args .fields .now) (c .args .a ∷ c .args .b ∷ c .args .c ∷ c .args .d ∷ c .args .e ∷ 0 ∷ []) (c .pre)
+returns c =
+    let a = c .args in
+    whole (a .fields .now) (a .number ∷ a .highest ∷ a .desired ∷ a .minimum ∷ a .last ∷ a .ranges ∷ []) (c .pre)
 
 pub put-fields-spec : {M : Type 1} → statement M
 put-fields-spec =

@@ -94,7 +94,7 @@ returns-3 c =
     let a = start k .args in
     let saw = k .look .ensures in
     let t = ap isStatus (sym (saw .0)) ∙ sym (tested .is-status .ensures) ∙ not-false _ (a-status at .if2 .left) in
-    let is = at .first-of .ensures .0 ∙ ap₂ (λ (kind : ℕ) (fs : List ℕ). firstOf kind (getD fs 4 0)) (saw .0) (saw .2) in
+    let is = at .first-of .ensures .0 ∙ ap₂ (λ (kind : ℕ) (fs : List ℕ). firstOf kind (getD fs 5 0)) (saw .0) (saw .2) in
     left-as (c .value .ok) (c .value .ensures)
     (ap (leaves _) (put .put-cursor2 .ensures ∙ ap (λ (b : ℕ). b ∷ at .first-of .result .place ∷ at .first-of .result .left ∷ []) (flag .flag .ensures))
     ∙ begins-status (a .cursor .now) _ (readFrame (a .frame .now)) t _ is)

@@ -7,7 +7,7 @@ use Rattle.bearer.specs.Keeper.{Keeper, arrive}
 use Rattle.keeper_judge.specs.declared.Arrival.{Arrival}
 use Rattle.keeper_state.specs.declared.Words.{Words}
 use Rattle.keeper_judge.specs.declared.Plan.{Plan}
-use Rattle.keeper_state.specs.State.{stateIn, Fronts}
+use Rattle.keeper_state.specs.State.{_saying-base_, _saying-runs_, _saying-records_, stateIn, Fronts}
 use Rattle.keeper_judge.specs.Judgements.{JudgesArrival, AcceptsArrival}
 use Rattle.keeper.specs.View.{wordsIn}
 use Rattle.keeper.proofs.Changed.{losing, arrived}
@@ -89,11 +89,8 @@ add-record-requires c κs =
     let p = accepted (c .before .before .before) in
     (omega (arith, accepts p .within, fronts p .count), omega (arith, accepts p .room, fronts p .count))
 
-moved-requires : tie.Need-moved-requires
-moved-requires c κs = accepts (accepted (listed (c .before))) .loses .few
-
-store-requires : tie.Need-store-requires
-store-requires c κs = search needs
+store-moved-requires : tie.Need-store-moved-requires
+store-moved-requires c κs = (search needs, accepts (accepted (listed (c .before))) .loses .few)
 
 returns : tie.Need-returns
 returns c =
@@ -105,14 +102,15 @@ returns c =
 
 returns-2 : tie.Need-returns-2
 returns-2 c =
-    let d = c .before .before .before in
+    let d = c .before .before in
     let l = listed d in
     let p = accepted l in
     let r = read (judged p) in
-    let a = start r .args in (
-      arrived (r .read .result) (a .numbers .now) (a .pdcps .now) (a .marks .now) (a .starts .now) (a .ends .now) (accepts p) (fronts p) (c .store .ensures) (c .before .moved .ensures) (d .add-record .last .0) (d .add-record .last .1 .0) (d .add-record .last .1 .1 .0) (l .list-lost .last .1 .0) (l .list-lost .last .1 .1 .0) (l .list-lost .ensures) (d .add-record .ensures .0)
+    let a = start r .args in
+    let next = ap (λ (w : Words). w saying-base plan p .base saying-runs plan p .lost .runs saying-records d .add-record .result) (sym (r .read .ensures)) in (
+      arrived (r .read .result) (a .numbers .now) (a .pdcps .now) (a .marks .now) (a .starts .now) (a .ends .now) (accepts p) (fronts p) (c .store-moved .ensures) next (d .add-record .last .0) (d .add-record .last .1 .0) (d .add-record .last .1 .1 .0) (l .list-lost .last .1 .0) (l .list-lost .last .1 .1 .0) (l .list-lost .ensures) (d .add-record .ensures .0)
           ∙ machine r,
-      (λ n e. absurd (lost-not _ n e), λ plain. plain-moved (r .read .result) (d .add-record .ensures .1) (plan p .base) (plan p .lost .runs) (accepts p .loses .few) (c .store .ensures) (c .before .moved .ensures) (rw (r .read .ensures) plain)),
+      (λ n e. absurd (lost-not _ n e), λ plain. plain-moved (r .read .result) (d .add-record .ensures .1) (plan p .base) (plan p .lost .runs) (accepts p .loses .few) (c .store-moved .ensures) next (rw (r .read .ensures) plain)),
     )
 
 pub arrive-spec : {M : Type 1} → statement M
@@ -125,7 +123,6 @@ arrive-spec =
     enum-known-place
     list-lost-requires
     add-record-requires
-    moved-requires
-    store-requires
+    store-moved-requires
     returns
     returns-2)

@@ -5,7 +5,7 @@ use Rattle.bearer.specs.Bearer.{refusing}
 use Rattle.bearer.specs.Keeper.{Keeper, expire}
 use Rattle.keeper_judge.specs.declared.Expiry.{Expiry}
 use Rattle.keeper_state.specs.declared.Words.{Words}
-use Rattle.keeper_state.specs.State.{stateIn, Fronts}
+use Rattle.keeper_state.specs.State.{_saying-base_, _saying-runs_, _saying-records_, stateIn, Fronts}
 use Rattle.keeper_judge.specs.Judgements.{JudgesExpiry, AcceptsExpiry}
 use Rattle.keeper.specs.View.{wordsIn}
 use Rattle.keeper.proofs.Changed.{losing, expired}
@@ -72,11 +72,8 @@ list-lost-requires c κs =
     let a = start r .args in
     (losing (r .read .result) (a .numbers .now) (a .pdcps .now) (a .marks .now) (a .starts .now) (a .ends .now) (accepts p .loses) (fronts p), accepts p .loses .few)
 
-moved-requires : tie.Need-moved-requires
-moved-requires c κs = accepts (accepted (c .before)) .loses .few
-
-store-requires : tie.Need-store-requires
-store-requires c κs = search needs
+store-moved-requires : tie.Need-store-moved-requires
+store-moved-requires c κs = (search needs, accepts (accepted (c .before)) .loses .few)
 
 returns : tie.Need-returns
 returns c =
@@ -87,12 +84,14 @@ returns c =
 
 returns-2 : tie.Need-returns-2
 returns-2 c =
-    let l = c .before .before .before in
+    let l = c .before .before in
     let p = accepted l in
     let r = read (judged p) in
-    let a = start r .args in (
-      expired (r .read .result) (a .numbers .now) (a .pdcps .now) (a .marks .now) (a .starts .now) (a .ends .now) (accepts p) (fronts p) (c .store .ensures) (c .before .moved .ensures) (l .list-lost .last .1 .0) (l .list-lost .last .1 .1 .0) (l .list-lost .ensures) ∙ machine r,
-      (λ n e. absurd (lost-not _ n e), λ plain. plain-moved (r .read .result) (λ marked. marked) (p .plan .given .0 .0 .base) (p .plan .given .0 .0 .lost .runs) (accepts p .loses .few) (c .store .ensures) (c .before .moved .ensures) (rw (r .read .ensures) plain)),
+    let a = start r .args in
+    let plan = p .plan .given .0 .0 in
+    let next = ap (λ (w : Words). w saying-base plan .base saying-runs plan .lost .runs saying-records r .read .result .records) (sym (r .read .ensures)) in (
+      expired (r .read .result) (a .numbers .now) (a .pdcps .now) (a .marks .now) (a .starts .now) (a .ends .now) (accepts p) (fronts p) (c .store-moved .ensures) next (l .list-lost .last .1 .0) (l .list-lost .last .1 .1 .0) (l .list-lost .ensures) ∙ machine r,
+      (λ n e. absurd (lost-not _ n e), λ plain. plain-moved (r .read .result) (λ marked. marked) (plan .base) (plan .lost .runs) (accepts p .loses .few) (c .store-moved .ensures) next (rw (r .read .ensures) plain)),
     )
 
 pub expire-spec : {M : Type 1} → statement M
@@ -104,7 +103,6 @@ expire-spec =
     enum-known-n
     enum-known-plan
     list-lost-requires
-    moved-requires
-    store-requires
+    store-moved-requires
     returns
     returns-2)

@@ -6,7 +6,7 @@ use borrow.Author.Needs.{needs}
 use Rattle.bearer.specs.Keeper.{Keeper, unreported, status}
 use Rattle.keeper_state.specs.declared.Words.{Words}
 use Rattle.keeper_report.specs.declared.Gone.{Gone}
-use Rattle.keeper_state.specs.State.{stateIn}
+use Rattle.keeper_state.specs.State.{openedWord, _saying-reported_, _saying-opened_, _saying-runs_, _saying-records_, stateIn}
 use Rattle.keeper.specs.declared.Built.{Built}
 use Rattle.keeper.specs.Steps.{BuildsFrame, Builds}
 use Rattle.keeper.proofs.Changed.{gone-within, reported}
@@ -83,11 +83,8 @@ drop-records-requires c κs =
     let a = start r .args in
     gone-within (r .read .result) (a .numbers .now) (a .pdcps .now) (a .marks .now) (a .starts .now) (a .ends .now) (accepts o)
 
-reported-requires : tie.Need-reported-requires
-reported-requires c κs = search needs
-
-store-requires : tie.Need-store-requires
-store-requires c κs = search needs
+store-reported-requires : tie.Need-store-reported-requires
+store-reported-requires c κs = search needs
 
 same-length : tie.Need-same-length
 same-length c = search needs
@@ -105,14 +102,15 @@ same-length-2 c = search needs
 
 returns-2 : tie.Need-returns-2
 returns-2 c =
-    let d = c .before .before .before in
+    let d = c .before .before in
     let g = runs-gone d in
     let o = accepted g in
     let r = read (built o) in
-    let a = start r .args in (
-      reported (r .read .result) (a .numbers .now) (a .pdcps .now) (a .marks .now) (a .starts .now) (a .ends .now) (accepts o) (c .store .ensures) (c .before .reported .ensures) (d .drop-records .last .0) (d .drop-records .last .1 .0) (d .drop-records .last .1 .1 .0) (g .drop-runs .last .0) (g .drop-runs .last .1 .0) (g .drop-runs .ensures .0) (d .drop-records .ensures .0)
+    let a = start r .args in
+    let next = ap (λ (w : Words). w saying-reported gone o .highest saying-opened openedWord (a .last) saying-runs g .drop-runs .result saying-records d .drop-records .result) (sym (r .read .ensures)) in (
+      reported (r .read .result) (a .numbers .now) (a .pdcps .now) (a .marks .now) (a .starts .now) (a .ends .now) (accepts o) (c .store-reported .ensures) next (d .drop-records .last .0) (d .drop-records .last .1 .0) (d .drop-records .last .1 .1 .0) (g .drop-runs .last .0) (g .drop-runs .last .1 .0) (g .drop-runs .ensures .0) (d .drop-records .ensures .0)
           ∙ ap (λ (w : Words). status (state (start r) w) (a .desired) (a .minimum) (a .last) (a .dst .now)) (r .read .ensures),
-      (λ n e. absurd (octets-not _ n e), λ plain. plain-reported (r .read .result) (d .drop-records .ensures .1) (gone o .highest) (a .last) (g .drop-runs .result) (g .drop-runs .ensures .1) (c .store .ensures) (c .before .reported .ensures) (rw (r .read .ensures) plain)),
+      (λ n e. absurd (octets-not _ n e), λ plain. plain-reported (r .read .result) (d .drop-records .ensures .1) (gone o .highest) (a .last) (g .drop-runs .result) (g .drop-runs .ensures .1) (c .store-reported .ensures) next (rw (r .read .ensures) plain)),
     )
 
 pub status-spec : {M : Type 1} → statement M
@@ -125,8 +123,7 @@ status-spec =
     enum-known-octets
     drop-runs-requires
     drop-records-requires
-    reported-requires
-    store-requires
+    store-reported-requires
     same-length
     returns
     same-length-2

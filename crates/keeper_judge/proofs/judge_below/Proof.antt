@@ -1,16 +1,18 @@
 -- `judge_below`: the tests are the machine's, in its order; what an accepted expiry changes is what the machine changes. Assumes nothing.
-use mathlib.Core.Path.{_≡_, _∙_, ap}
+use mathlib.Core.Path.{_≡_, sym, _∙_, ap}
+use mathlib.Core.Bool.{true}
 use mathlib.Core.List.{List}
 use Prim.Native.Nat.{ℕ, _≤_}
 use native.Mathlib.Omega.{arith}
 use borrow.Author.Needs.{needs}
+use borrow.Author.Tests.{not-true, not-false}
 use lib.ListN.{length, drop}
 use Rattle.circle.specs.Lengths.{modulus}
 use Rattle.circle.proofs.Forms.{modulus-bounds}
 use Rattle.frame_layout.specs.Frames.{Range, rangesOf, endsOf}
 use Rattle.bearer.specs.Losses.{topOf, offsets, raisedBase}
 use Rattle.keeper_loss.proofs.Ends.{top-below}
-use Rattle.keeper_state.specs.State.{modulusIn}
+use Rattle.keeper_state.specs.State.{isOpen, modulusIn}
 use Rattle.keeper_judge.specs.Judgements.{Losing}
 use Rattle.basics.proofs.Parts.{rest-part}
 use Rattle.frame_layout.proofs.Ranges.{ends-own}
@@ -32,8 +34,8 @@ lost c = c .before .before
 -- ---- what is known there
 
 -- the end is open
-opened : (c : tie.After-top-of) → start c .args .w .closed ≡ 0
-opened c = c .before .before .if1 .left
+opened : (c : tie.After-top-of) → isOpen (start c .args .w .opened) ≡ true
+opened c = let e = c .before .before in sym (e .before .is-open .ensures) ∙ not-false _ (e .if1 .left)
 
 -- M is that of the words
 modulus-is : (c : tie.After-top-of) → modulus (c .before .is-long .result) ≡ modulusIn (start c .args .w)
@@ -55,10 +57,13 @@ within c = let es = start (topped c) .args .ends .now in c .lost-below .ensures 
 
 -- ---- the needs
 
+is-open-requires : tie.Need-is-open-requires
+is-open-requires c κs = search needs
+
 returns : tie.Need-returns
 returns c =
     let a = c .before .before .before .before .args in
-    λ runs records seen ends. closed-expiry (a .w) runs records (c .if1 .taken)
+    λ runs records seen ends. closed-expiry (a .w) runs records (sym (c .before .is-open .ensures) ∙ not-true _ (c .if1 .taken))
 
 is-long-requires : tie.Need-is-long-requires
 is-long-requires c κs = search needs
@@ -119,6 +124,7 @@ pub judge-below-spec : {M : Type 1} → statement M
 judge-below-spec =
     tie.close
     (tie.spec
+    is-open-requires
     returns
     is-long-requires
     top-of-requires

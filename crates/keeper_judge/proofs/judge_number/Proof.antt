@@ -1,15 +1,16 @@
 -- `judge_number`: the tests are the machine's, in its order, and then its place. Assumes nothing.
 use mathlib.Core.Path.{_≡_, sym, _∙_, ap, subst}
-use mathlib.Core.Bool.{Bool}
+use mathlib.Core.Bool.{Bool, true}
 use Prim.Native.Nat.{ℕ, _/_, _<_}
 use native.Mathlib.Omega.{arith}
 use borrow.Author.Needs.{needs}
+use borrow.Author.Tests.{not-true, not-false}
 use Rattle.circle.specs.Circle.{forward}
 use Rattle.circle.specs.Lengths.{modulus, pdcps, lengthIn}
 use Rattle.circle.proofs.Forms.{modulus-bounds, distance-below}
 use Rattle.bearer.specs.Bearer.{After}
 use Rattle.bearer.specs.Keeper.{Keeper}
-use Rattle.keeper_state.specs.State.{modulusIn, stateOf}
+use Rattle.keeper_state.specs.State.{isOpen, modulusIn, stateOf}
 use Rattle.keeper_judge.specs.Judgements.{ArrivalIs}
 use Rattle.keeper_judge.proofs.Arriving.{closed-arrival, bad-number, bad-pdcp, late, on-time}
 use Rattle.keeper_judge.proofs.judge_number.Statement.{statement}
@@ -26,8 +27,8 @@ formed c = c .before .before .before .before .before
 -- ---- what is known there
 
 -- the end is open
-opened : (c : tie.After-modulus) → start c .args .w .closed ≡ 0
-opened c = c .before .before .if1 .left
+opened : (c : tie.After-modulus) → isOpen (start c .args .w .opened) ≡ true
+opened c = let e = c .before .before in sym (e .before .is-open .ensures) ∙ not-false _ (e .if1 .left)
 
 -- M is that of the words
 modulus-is : (c : tie.After-modulus) → c .modulus .result ≡ modulusIn (start c .args .w)
@@ -52,10 +53,13 @@ half-is c = c .half .ensures ∙ ap (λ (b : Bool). modulus b / 2) (formed c .be
 
 -- ---- the needs
 
+is-open-requires : tie.Need-is-open-requires
+is-open-requires c κs = search needs
+
 returns : tie.Need-returns
 returns c =
     let a = c .before .before .before .before .before .args in
-    λ runs records seen starts ends. closed-arrival (a .w) runs records (a .number) (a .pdcp) (c .if1 .taken)
+    λ runs records seen starts ends. closed-arrival (a .w) runs records (a .number) (a .pdcp) (sym (c .before .is-open .ensures) ∙ not-true _ (c .if1 .taken))
 
 is-long-requires : tie.Need-is-long-requires
 is-long-requires c κs = search needs
@@ -112,6 +116,7 @@ pub judge-number-spec : {M : Type 1} → statement M
 judge-number-spec =
     tie.close
     (tie.spec
+    is-open-requires
     returns
     is-long-requires
     modulus-requires

@@ -12,7 +12,7 @@ use Rattle.circle.specs.Lengths.{modulus}
 use Rattle.frame_layout.specs.Frames.{Range, rangesOf}
 use Rattle.bearer.specs.Losses.{beforeBase}
 use Rattle.bearer.specs.Keeper.{Record, noRecord, numbersOf}
-use Rattle.keeper_state.specs.State.{modulusIn, listedIn, heldIn, recordsOf}
+use Rattle.keeper_state.specs.State.{isOpen, modulusIn, listedIn, heldIn, recordsOf}
 use Rattle.keeper_state.proofs.Fronts.{numbers-are, mark-is}
 use Rattle.keeper_report.proofs.Confirming.{closed-confirm, no-number, nowhere, not-before, marked-already, marks}
 use Rattle.keeper_report.proofs.judge_confirm.Statement.{statement}
@@ -42,8 +42,8 @@ abbrev runs : tie.Start → List ℕ → List ℕ → List Range
 runs c ss es = take (listedIn (c .args .w)) (rangesOf ss es)
 
 -- the end is open
-opened : (c : tie.After-modulus) → start c .args .w .closed ≡ 0
-opened c = c .before .before .if1 .left
+opened : (c : tie.After-modulus) → isOpen (start c .args .w .opened) ≡ true
+opened c = let e = c .before .before in sym (e .before .is-open .ensures) ∙ not-false _ (e .if1 .left)
 
 -- M is that of the words
 modulus-is : (c : tie.After-modulus) → c .modulus .result ≡ modulusIn (start c .args .w)
@@ -88,10 +88,13 @@ mark c =
 
 -- ---- the needs
 
+is-open-requires : tie.Need-is-open-requires
+is-open-requires c κs = search needs
+
 returns : tie.Need-returns
 returns c =
     let s = c .before .before in
-    λ ss es. closed-confirm (s .args .w) (runs s ss es) (records s) (s .args .number) (c .if1 .taken)
+    λ ss es. closed-confirm (s .args .w) (runs s ss es) (records s) (s .args .number) (sym (c .before .is-open .ensures) ∙ not-true _ (c .if1 .taken))
 
 is-long-requires : tie.Need-is-long-requires
 is-long-requires c κs = search needs
@@ -168,6 +171,7 @@ pub judge-confirm-spec : {M : Type 1} → statement M
 judge-confirm-spec =
     tie.close
     (tie.spec
+    is-open-requires
     returns
     is-long-requires
     modulus-requires

@@ -1,15 +1,17 @@
 -- `judge_status`: the tests are the machine's, in its order; what goes is what the machine lets go. Assumes nothing.
 use mathlib.Core.Path.{_≡_, sym, _∙_, ap}
+use mathlib.Core.Bool.{true}
 use mathlib.Core.List.{List}
 use Prim.Native.Nat.{ℕ}
 use native.Mathlib.Omega.{arith}
 use borrow.Author.Needs.{needs}
+use borrow.Author.Tests.{not-true, not-false}
 use lib.Dec.{ltb}
 use lib.ListN.{length, length-take}
 use Rattle.basics.specs.Basics.{_and_}
 use Rattle.frame_layout.specs.Frames.{mostRanges}
 use Rattle.bearer.specs.Keeper.{Keeper, Record}
-use Rattle.keeper_state.specs.State.{stateOf, stateIn}
+use Rattle.keeper_state.specs.State.{isOpen, stateOf, stateIn}
 use Rattle.keeper_report.specs.Reports.{goneOf}
 use Rattle.keeper_state.proofs.Fronts.{records-are, starts-are, count-is}
 use Rattle.keeper_state.proofs.Records.{records-same}
@@ -41,8 +43,8 @@ abbrev state : tie.Start → Keeper
 state c = let a = c .args in stateIn (a .w) (a .numbers .now) (a .pdcps .now) (a .marks .now) (a .starts .now) (a .ends .now)
 
 -- the end is open
-opened : (c : tie.After-leaves-out) → start (held (counted c)) .args .w .closed ≡ 0
-opened c = c .before .if1 .left
+opened : (c : tie.After-leaves-out) → isOpen (start (held (counted c)) .args .w .opened) ≡ true
+opened c = let e = c .before in sym (e .before .is-open .ensures) ∙ not-false _ (e .if1 .left)
 
 -- whether a last status would leave out runs
 leaves : (c : tie.After-leaves-out) → let s = start (held (counted c)) in s .args .last and ltb mostRanges (length (state s .runs)) ≡ c .leaves-out .result
@@ -59,10 +61,13 @@ held-in-requires c κs = search needs
 listed-in-requires : tie.Need-listed-in-requires
 listed-in-requires c κs = search needs
 
+is-open-requires : tie.Need-is-open-requires
+is-open-requires c κs = search needs
+
 returns : tie.Need-returns
 returns c =
     let s = start (held (c .before .before)) in
-    λ desired minimum d. closed-status (s .args .w) (state s .runs) (state s .records) (s .args .last) desired minimum d (c .if1 .taken)
+    λ desired minimum d. closed-status (s .args .w) (state s .runs) (state s .records) (s .args .last) desired minimum d (sym (c .before .is-open .ensures) ∙ not-true _ (c .if1 .taken))
 
 leaves-out-requires : tie.Need-leaves-out-requires
 leaves-out-requires c κs = search needs
@@ -121,6 +126,7 @@ judge-status-spec =
     (tie.spec
     held-in-requires
     listed-in-requires
+    is-open-requires
     returns
     leaves-out-requires
     returns-2

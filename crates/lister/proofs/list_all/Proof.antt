@@ -1,16 +1,16 @@
--- `list_all`: between reads the next answer's place lies within the output; the reads that are left are the measure.
+-- `list_all`: between reads the output keeps its size; the reads that are left are the measure.
 -- Assumes nothing.
+use Prim.Native.Nat.{_≤_}
 use mathlib.Core.Path.{_≡_}
 use lib.ListN.{length}
 use borrow.Author.Needs.{needs}
-use Rattle.program_io.specs.Places.{Ready}
-use Rattle.program_io.proofs.Places.{fewer}
+use Rattle.program_io.proofs.Fewer.{fewer}
 use Rattle.lister_answers.specs.Answers.{mostText}
 use Rattle.lister.proofs.list_all.Statement.{statement}
 use Rattle.lister.proofs.list_all.Tie as tie
 
 abbrev Inv-loop : tie.InvT-loop
-Inv-loop block₀ line₀ out₀ state₀ reads₀ block line out state reads = (length block ≡ length block₀) × (length out ≡ length out₀) × Ready out (state .at) mostText
+Inv-loop block₀ line₀ out₀ state₀ reads₀ block line out state reads = (length block ≡ length block₀) × (length out ≡ length out₀) × (mostText ≤ length out)
 
 abbrev μ-loop : tie.MeasureT-loop
 μ-loop block₀ line₀ out₀ state₀ reads₀ block line out state reads = reads

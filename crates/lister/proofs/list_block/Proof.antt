@@ -1,22 +1,20 @@
--- `list_block`: each turn has room, so that it takes something of the block. Assumes nothing.
+-- `list_block`: each turn has the whole output for its answers, so that it takes something of the block. Assumes nothing.
 use Prim.Native.Nat.{_+_, _-_, _≤_}
 use native.Mathlib.Omega.{arith}
-use mathlib.Core.Path.{_≡_, refl, _∙_}
-use lib.ListN.{length, take, drop, length-drop}
-use lib.Seq.{take-all}
+use mathlib.Core.Path.{_≡_, _∙_}
+use lib.ListN.{length, drop, length-drop}
 use borrow.Author.Needs.{needs}
+use Rattle.basics.proofs.Parts.{rest-part}
 use Rattle.lister_lines.proofs.Feeds.{Goes, goes}
-use Rattle.program_io.specs.Places.{Ready}
-use Rattle.program_io.proofs.Places.{has-room}
 use Rattle.lister_answers.specs.Answers.{mostText}
 use Rattle.lister.proofs.list_block.Statement.{statement}
 use Rattle.lister.proofs.list_block.Tie as tie
 
 abbrev Inv-loop : tie.InvT-loop
-Inv-loop block line₀ out₀ held₀ at₀ from₀ line out held at from = (from ≤ length block) × (length out ≡ length out₀) × Ready out at mostText
+Inv-loop block line₀ out₀ held₀ lines₀ from₀ t10 line out held lines from = (from ≤ length block) × (length out ≡ length out₀) × (mostText ≤ length out)
 
 abbrev μ-loop : tie.MeasureT-loop
-μ-loop block line₀ out₀ held₀ at₀ from₀ line out held at from = length block - from
+μ-loop block line₀ out₀ held₀ lines₀ from₀ t10 line out held lines from = length block - from
 
 -- ---- places of the code
 
@@ -24,28 +22,31 @@ abbrev μ-loop : tie.MeasureT-loop
 abbrev start : tie.At-loop Inv-loop μ-loop → tie.Start Inv-loop μ-loop
 start c = c .before .before .before
 
--- a turn, by what comes after it
-abbrev turn : tie.After-next-place Inv-loop μ-loop → tie.At-loop Inv-loop μ-loop
-turn c = c .before .before .before
+-- a turn, by what it fed
+abbrev turn : tie.After-feed Inv-loop μ-loop → tie.At-loop Inv-loop μ-loop
+turn c = c .before .before .before .before .before
 
-abbrev placed : tie.After-feed Inv-loop μ-loop → tie.After-next-place Inv-loop μ-loop
-placed c = c .before .before .before .before .before .before
+-- what was fed, by what was written
+abbrev fed : tie.After-write-answers Inv-loop μ-loop → tie.After-feed Inv-loop μ-loop
+fed c = c .before .before .before .before .before .before
 
--- what was fed
-abbrev fed : tie.After-struct-known2 Inv-loop μ-loop → tie.After-feed Inv-loop μ-loop
-fed c = c .before .before .before
+-- ---- answers
+
+-- what the call took, of what was left of the block
+took : (c : tie.After-feed Inv-loop μ-loop) → let t = turn c in Goes (drop (t .loop .from) (start t .args .block .now)) (t .loop .out) (c .feed .result)
+took c =
+    let t = turn c in
+    let l = t .loop in
+    let block = start t .args .block .now in
+    goes (drop (l .from) block) (l .line) (l .out) (c .feed .last .1 .0) (c .feed .last .1 .1 .1 .0) (l .held) 0 (c .feed .result)
+    (rw (rest-part block (l .from)) at (c .feed .ensures)) (l .inv .2) (omega (arith, length-drop (l .from) block))
+
+-- is within it
+within : (c : tie.After-feed Inv-loop μ-loop) → let t = turn c in t .loop .from + c .feed .result .taken ≤ length (start t .args .block .now)
+within c = let t = turn c in omega (arith, took c .most, length-drop (t .loop .from) (start t .args .block .now))
 
 loop-holds : tie.Need-loop-holds Inv-loop μ-loop
-loop-holds c = (omega arith, refl, c .before .before .pre)
-
-next-place-requires : tie.Need-next-place-requires Inv-loop μ-loop
-next-place-requires c κs = search needs
-
-same-length : tie.Need-same-length Inv-loop μ-loop
-same-length c = turn (c .before .before) .loop .inv .1
-
-returns : tie.Need-returns Inv-loop μ-loop
-returns c = search needs
+loop-holds c = search needs
 
 sub-feed : tie.Need-sub-feed Inv-loop μ-loop
 sub-feed c = search needs
@@ -59,36 +60,36 @@ part-feed-end c = search needs
 feed-requires : tie.Need-feed-requires Inv-loop μ-loop
 feed-requires c κs = search needs
 
--- what the call took, of what was left of the block
-took : (c : tie.After-feed Inv-loop μ-loop) → let t = turn (placed c) in Goes (drop (t .loop .from) (start t .args .block .now)) (t .loop .out) (c .feed .result)
-took c =
-    let t = turn (placed c) in
-    let l = t .loop in
-    let block = start t .args .block .now in
-    let next = placed c .next-place in
-    let part : take (length block - l .from) (drop (l .from) block) ≡ drop (l .from) block
-    = take-all (length block - l .from) (drop (l .from) block) (omega (arith, length-drop (l .from) block)) in
-    goes (drop (l .from) block) (l .line) (l .out) (c .feed .last .1 .0) (c .feed .last .1 .1 .1 .0) (l .held) (next .result .at) (c .feed .result)
-    (rw part at (c .feed .ensures)) (has-room (next .ensures) (l .inv .2 .0)) (omega (arith, length-drop (l .from) block))
-
--- is within it
-within : (c : tie.After-feed Inv-loop μ-loop) → let t = turn (placed c) in t .loop .from + c .feed .result .taken ≤ length (start t .args .block .now)
-within c = let t = turn (placed c) in omega (arith, took c .most, length-drop (t .loop .from) (start t .args .block .now))
-
 add-from : tie.Need-add-from Inv-loop μ-loop
-add-from c = omega (arith, within (fed c))
+add-from c = omega (arith, within (c .before .before .before))
+
+slice-aggregate-write-answers : tie.Need-slice-aggregate-write-answers Inv-loop μ-loop
+slice-aggregate-write-answers c = search needs
+
+write-answers-requires : tie.Need-write-answers-requires Inv-loop μ-loop
+write-answers-requires c κs = search needs
+
+ended-requires : tie.Need-ended-requires Inv-loop μ-loop
+ended-requires c κs = search needs
+
+same-length : tie.Need-same-length Inv-loop μ-loop
+same-length c = search needs
+
+returns : tie.Need-returns Inv-loop μ-loop
+returns c = search needs
 
 loop-less : tie.Need-loop-less Inv-loop μ-loop
-loop-less c = omega (arith, within (fed c), took (fed c) .some)
+loop-less c = omega (arith, within (fed (c .before .before)), took (fed (c .before .before)) .some)
 
 loop-again : tie.Need-loop-again Inv-loop μ-loop
 loop-again c =
-    let l = turn (placed (fed c)) .loop in
-    let size = fed c .feed .kept .1 .1 .1 .0 in
-    (within (fed c), size ∙ l .inv .1, (omega (arith, size, l .inv .2 .0), omega (arith, took (fed c) .within, size)))
+    let d = fed (c .before .before) in
+    let l = turn d .loop in
+    let size = d .feed .kept .1 .1 .1 .0 in
+    (within d, size ∙ l .inv .1, omega (arith, size, l .inv .2))
 
 same-length-2 : tie.Need-same-length-2 Inv-loop μ-loop
-same-length-2 c = c .before .loop .inv .1
+same-length-2 c = search needs
 
 returns-2 : tie.Need-returns-2 Inv-loop μ-loop
 returns-2 c = search needs
@@ -100,14 +101,16 @@ list-block-spec =
     Inv-loop
     μ-loop
     loop-holds
-    next-place-requires
-    same-length
-    returns
     sub-feed
     part-feed-start
     part-feed-end
     feed-requires
     add-from
+    slice-aggregate-write-answers
+    write-answers-requires
+    ended-requires
+    same-length
+    returns
     loop-less
     loop-again
     same-length-2

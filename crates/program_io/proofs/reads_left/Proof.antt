@@ -3,7 +3,7 @@ use borrow.Author.Needs.{needs}
 use mathlib.Core.Bool.{Bool, true, false}
 use mathlib.Core.Path.{_≡_, refl}
 use Prim.Native.Nat.{ℕ}
-use Rattle.program_io.specs.Places.{readsLeft}
+use Rattle.program_io.specs.Reads.{readsLeft}
 use Rattle.program_io.proofs.reads_left.Statement.{statement}
 use Rattle.program_io.proofs.reads_left.Tie as tie
 

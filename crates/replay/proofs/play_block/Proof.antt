@@ -1,13 +1,11 @@
--- `play_block`: each turn has room, so that it takes something of the block. Assumes nothing.
+-- `play_block`: each turn has the whole output for its answers, so that it takes something of the block. Assumes nothing.
 use borrow.Author.Needs.{needs}
 use Prim.Native.Nat.{_+_, _-_, _≤_, _<_}
 use native.Mathlib.Omega.{arith}
-use mathlib.Core.Path.{_≡_, refl, _∙_}
+use mathlib.Core.Path.{_≡_, _∙_}
 use lib.ListN.{length, take, drop, length-drop}
 use Rattle.basics.proofs.Parts.{rest-part}
 use Rattle.keeper.specs.View.{keeperIn}
-use Rattle.program_io.specs.Places.{Ready}
-use Rattle.program_io.proofs.Places.{has-room}
 use Rattle.program_lines.proofs.Feeds.{takes-some}
 use Rattle.replay_states.specs.Lines.{mostText}
 use Rattle.replay_lines.specs.Scripts.{replaying}
@@ -16,10 +14,10 @@ use Rattle.replay.proofs.play_block.Statement.{statement}
 use Rattle.replay.proofs.play_block.Tie as tie
 
 abbrev Inv-loop : tie.InvT-loop
-Inv-loop block line₀ ns₀ ps₀ cs₀ ss₀ es₀ w₀ out₀ held₀ p₀ from₀ line ns ps cs ss es w out held p from = (from ≤ length block) × (length out ≡ length out₀) × Ready out (p .at) mostText
+Inv-loop block line₀ ns₀ ps₀ cs₀ ss₀ es₀ w₀ out₀ held₀ lines₀ p₀ from₀ t17 line ns ps cs ss es w out held lines p from = (from ≤ length block) × (length out ≡ length out₀) × (mostText ≤ length out)
 
 abbrev μ-loop : tie.MeasureT-loop
-μ-loop block line₀ ns₀ ps₀ cs₀ ss₀ es₀ w₀ out₀ held₀ p₀ from₀ line ns ps cs ss es w out held p from = length block - from
+μ-loop block line₀ ns₀ ps₀ cs₀ ss₀ es₀ w₀ out₀ held₀ lines₀ p₀ from₀ t17 line ns ps cs ss es w out held lines p from = length block - from
 
 -- ---- places of the code
 
@@ -27,45 +25,35 @@ abbrev μ-loop : tie.MeasureT-loop
 abbrev start : tie.At-loop Inv-loop μ-loop → tie.Start Inv-loop μ-loop
 start c = c .before .before .before .before
 
--- a turn that has found a place
-abbrev turn : tie.After-next-place Inv-loop μ-loop → tie.At-loop Inv-loop μ-loop
-turn c = c .before .before .before
+-- a turn, by what it fed
+abbrev turn : tie.After-feed Inv-loop μ-loop → tie.In-loop Inv-loop μ-loop
+turn c = let lent = c .before .before .before .before .before in lent .before .before .before .before .before
 
--- and has fed a part
-abbrev placed : tie.After-feed Inv-loop μ-loop → tie.After-next-place Inv-loop μ-loop
-placed c = let lent = c .before .before .before .before .before in lent .before .before .before .before .before .before .before
-
-abbrev fed : tie.After-struct-known2 Inv-loop μ-loop → tie.After-feed Inv-loop μ-loop
-fed c = c .before .before .before
+-- what was fed, by what was written
+abbrev fed : tie.After-write-answers Inv-loop μ-loop → tie.After-feed Inv-loop μ-loop
+fed c = c .before .before .before .before .before .before .before
 
 -- ---- answers
 
--- there is room at the next place
-room : (c : tie.After-next-place Inv-loop μ-loop) → c .next-place .result .at + mostText ≤ length (turn c .loop .out)
-room c = has-room (c .next-place .ensures) (turn c .loop .inv .2 .0)
-
 -- what the call took, of what was left of the block
-took : (c : tie.After-feed Inv-loop μ-loop) → let t = turn (placed c) in let r = c .feed .result in (0 < r .taken) × (t .loop .from + r .taken ≤ length (start t .args .block .now))
+took : (c : tie.After-feed Inv-loop μ-loop)
+    → let t = turn c .before in
+    (0 < c .feed .result .taken) × (t .loop .from + c .feed .result .taken ≤ length (start t .args .block .now))
 took c =
-    let t = turn (placed c) in
+    let t = turn c .before in
     let l = t .loop in
     let block = start t .args .block .now in
     let k = keeperIn (l .ns) (l .ps) (l .cs) (l .ss) (l .es) (l .w) in
-    let some = takes-some replaying (drop (l .from) block) (take (l .held) (l .line)) (l .out) (endsIn (l .p) k) (placed c .next-place .result .at)
-    (rw (rest-part block (l .from)) at (c .feed .ensures .0)) (room (placed c)) (omega (arith, length-drop (l .from) block, placed c .before .before .loop-test .taken)) in
+    let some = takes-some replaying (drop (l .from) block) (take (l .held) (l .line)) (l .out) (endsIn (l .p) k) 0
+    (rw (rest-part block (l .from)) at (c .feed .ensures .0)) (l .inv .2) (omega (arith, length-drop (l .from) block, turn c .loop-test .taken)) in
     (some .0, omega (arith, some .1, length-drop (l .from) block))
 
+-- the output keeps its size
+size : (c : tie.After-feed Inv-loop μ-loop) → length (c .feed .last .1 .1 .1 .1 .1 .1 .1 .1 .1 .0) ≡ length (turn c .before .loop .out)
+size c = c .feed .kept .1 .1 .1 .1 .1 .1 .1 .1 .1 .0
+
 loop-holds : tie.Need-loop-holds Inv-loop μ-loop
-loop-holds c = (omega arith, refl, c .before .before .before .pre)
-
-next-place-requires : tie.Need-next-place-requires Inv-loop μ-loop
-next-place-requires c κs = search needs
-
-same-length : tie.Need-same-length Inv-loop μ-loop
-same-length c = turn (c .before .before) .loop .inv .1
-
-returns : tie.Need-returns Inv-loop μ-loop
-returns c = omega (arith, room (c .before .before))
+loop-holds c = search needs
 
 sub-feed : tie.Need-sub-feed Inv-loop μ-loop
 sub-feed c = search needs
@@ -80,20 +68,34 @@ feed-requires : tie.Need-feed-requires Inv-loop μ-loop
 feed-requires c κs = search needs
 
 add-from : tie.Need-add-from Inv-loop μ-loop
-add-from c = omega (arith, took (fed c), start (turn (placed (fed c))) .good .0 .0)
+add-from c = let d = c .before .before .before in omega (arith, took d, start (turn d .before) .good .0 .0)
+
+slice-aggregate-write-answers : tie.Need-slice-aggregate-write-answers Inv-loop μ-loop
+slice-aggregate-write-answers c = search needs
+
+write-answers-requires : tie.Need-write-answers-requires Inv-loop μ-loop
+write-answers-requires c κs = search needs
+
+ended-requires : tie.Need-ended-requires Inv-loop μ-loop
+ended-requires c κs = search needs
+
+same-length : tie.Need-same-length Inv-loop μ-loop
+same-length c = let d = fed (c .before .before .before) in size d ∙ turn d .before .loop .inv .1
+
+returns : tie.Need-returns Inv-loop μ-loop
+returns c = search needs
 
 loop-less : tie.Need-loop-less Inv-loop μ-loop
-loop-less c = omega (arith, took (fed (c .before)))
+loop-less c = omega (arith, took (fed (c .before .before)))
 
 loop-again : tie.Need-loop-again Inv-loop μ-loop
 loop-again c =
-    let d = fed (c .before) in
-    let l = turn (placed d) .loop in
-    let size = d .feed .kept .1 .1 .1 .1 .1 .1 .1 .1 .1 .0 in
-    (took d .1, size ∙ l .inv .1, (omega (arith, size, l .inv .2 .0), omega (arith, size, d .feed .ensures .1 (omega (arith, room (placed d))))))
+    let d = fed (c .before .before) in
+    let l = turn d .before .loop in
+    (took d .1, size d ∙ l .inv .1, omega (arith, size d, l .inv .2))
 
 same-length-2 : tie.Need-same-length-2 Inv-loop μ-loop
-same-length-2 c = c .before .loop .inv .1
+same-length-2 c = search needs
 
 returns-2 : tie.Need-returns-2 Inv-loop μ-loop
 returns-2 c = search needs
@@ -105,14 +107,16 @@ play-block-spec =
     Inv-loop
     μ-loop
     loop-holds
-    next-place-requires
-    same-length
-    returns
     sub-feed
     part-feed-start
     part-feed-end
     feed-requires
     add-from
+    slice-aggregate-write-answers
+    write-answers-requires
+    ended-requires
+    same-length
+    returns
     loop-less
     loop-again
     same-length-2

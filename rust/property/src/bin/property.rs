@@ -46,7 +46,7 @@ fn run() -> Result<bool, String> {
         "shipped-calls",
         "seed",
     ];
-    let options = Options::of(std::env::args().skip(1), &known)?;
+    let options = Options::of(std::env::args().skip(1), &known, &[])?;
     let program = |name: &str| -> Result<PathBuf, String> { options.value(name, PathBuf::new()) };
     let [library, product, shipped] = [
         program("library")?,

@@ -26,7 +26,7 @@ fn main() -> ExitCode {
 }
 
 fn run() -> Result<ExitCode, String> {
-    let options = Options::of(std::env::args().skip(1), &["lines", "seed", "save"])?;
+    let options = Options::of(std::env::args().skip(1), &["lines", "seed", "save"], &[])?;
     let [kind, one, other] = &options.words[..] else {
         return Err("a kind and two programs are needed".to_owned());
     };

@@ -1,7 +1,9 @@
 //! Both ends under watch, and the program under test beside them.
 
 use super::Settings;
+use super::conditions::MINIMUM_PART;
 use super::link::{Link, Mismatch};
+use super::source::HeldBy;
 use crate::table::Table;
 use model::{Opening, Pair};
 use programs::replay::{Call, answer};
@@ -13,6 +15,8 @@ use x2u::{Answer, Refusal};
 /// Why a ramp can't go on.
 #[derive(Clone, Debug, PartialEq, Eq)]
 pub enum Trouble {
+    /// The program can't be started.
+    Start(String),
     /// Demand 3 is violated.
     Demand(String),
     /// The program and the library differ; the link knows where.
@@ -38,7 +42,7 @@ impl Bench {
     pub fn open(settings: &Settings, opening: Opening) -> io::Result<Self> {
         let mut bench = Self {
             pair: Pair::open(opening),
-            link: Link::start(&settings.program)?,
+            link: Link::start(&settings.program, settings.patience)?,
             calls: 0,
             table: Table::default(),
         };
@@ -101,7 +105,7 @@ impl Bench {
 
     /// The secondary builds a status. Answers its octets.
     pub fn status(&mut self, desired: u32, is_final: bool, room: usize) -> Seen<Vec<u8>> {
-        let minimum = desired / 4;
+        let minimum = desired / MINIMUM_PART;
         let built = self.pair.status([desired, minimum], is_final, room);
         let built = built.map_err(Trouble::Demand)?.map(<[u8]>::to_vec);
         let call = Call::Status {
@@ -178,8 +182,12 @@ fn word_of(call: &Call<'_>) -> &'static str {
     }
 }
 
-/// Whether a refused send only means that the master has to wait.
+/// What holds a packet up, if a refused send only means that it has to wait.
 #[must_use]
-pub fn must_wait(refusal: Refusal) -> bool {
-    matches!(refusal, Refusal::LedgerFull | Refusal::PdcpOrder)
+pub fn held_by(refusal: Refusal) -> Option<HeldBy> {
+    match refusal {
+        Refusal::LedgerFull => Some(HeldBy::Ledger),
+        Refusal::PdcpOrder => Some(HeldBy::Order),
+        _ => None,
+    }
 }

@@ -1,13 +1,15 @@
-//! The ramp as a picture (SVG): three panels over one axis of time.
+//! The ramp as a picture (SVG): four panels over one axis of time.
 
 use super::Settings;
 use super::figures::{Figures, Second, Stores};
+use super::verdict::Verdict;
 use super::weather::TROUBLES;
+use super::words::grouped;
 use std::fmt::{self, Display, Formatter};
 use x2u::frame::MOST_RANGES;
 
 const WIDTH: f64 = 1_220.0;
-const HEIGHT: f64 = 940.0;
+const HEIGHT: f64 = 1_175.0;
 const LEFT: f64 = 90.0;
 const RIGHT: f64 = 190.0;
 const PANEL: f64 = 180.0;
@@ -17,18 +19,19 @@ const ORANGE: &str = "#c8611a";
 const GREEN: &str = "#2b8a57";
 const RED: &str = "#b3261e";
 const PURPLE: &str = "#6a4c93";
+const TEAL: &str = "#13858c";
 const GREY: &str = "#6b6b6b";
 
 /// A ramp, to be drawn.
 pub struct Chart<'a> {
     /// What was played.
     pub settings: &'a Settings,
-    /// What it came to.
+    /// Its figures.
     pub figures: &'a Figures,
     /// A line of text under the title.
     pub subtitle: String,
-    /// Whether nothing went wrong.
-    pub passed: bool,
+    /// What it came to.
+    pub verdict: Verdict,
 }
 
 /// A panel: where it is, and what its full height stands for.
@@ -96,7 +99,8 @@ impl Panel<'_> {
     fn limit(&self, out: &mut Formatter<'_>, value: usize, name: &str) -> fmt::Result {
         let (y, right) = (self.y(value as f64), self.chart.x(f64::INFINITY));
         stroke(out, [LEFT, y, right, y], RED, "6 4")?;
-        text(out, right + 8.0, y + 4.0, "start", RED, 12.0, name)
+        let named = format!("{value}: {name}");
+        text(out, right + 8.0, y + 4.0, "start", RED, 12.0, &named)
     }
 
     /// A line through the fullest of each second.
@@ -154,6 +158,11 @@ fn text(
     )
 }
 
+/// Marks at the quarters of a panel's height.
+fn quarters(full: usize) -> [f64; 5] {
+    [0, 1, 2, 3, 4].map(|quarter| (full * quarter / 4) as f64)
+}
+
 fn stroke(out: &mut Formatter<'_>, line: [f64; 4], colour: &str, dashes: &str) -> fmt::Result {
     let [x1, y1, x2, y2] = line;
     writeln!(
@@ -162,44 +171,37 @@ fn stroke(out: &mut Formatter<'_>, line: [f64; 4], colour: &str, dashes: &str) -
     )
 }
 
-/// A number with its thousands apart.
-#[must_use]
-pub fn grouped(number: u64) -> String {
-    let digits = number.to_string();
-    let mut grouped = String::new();
-    for (place, digit) in digits.chars().enumerate() {
-        if place > 0 && (digits.len() - place).is_multiple_of(3) {
-            grouped.push(',');
-        }
-        grouped.push(digit);
-    }
-    grouped
-}
-
 impl Chart<'_> {
     fn stores(&self, out: &mut Formatter<'_>) -> fmt::Result {
         let limit = Stores::LIMITS.entries;
         let panel = self.panel(0, limit as f64 * 1.08);
         let title = "Ledger fill: packets held by the master, fullest in each second";
-        panel.frame(out, title, &[0.0, 128.0, 256.0, 384.0, 512.0])?;
-        panel.limit(out, limit, "512: ledger full")?;
+        panel.frame(out, title, &quarters(limit))?;
+        panel.limit(out, limit, "ledger full")?;
         panel.line(out, BLUE, |second| second.fullest.entries as f64)?;
 
-        let limit = Stores::LIMITS.runs;
+        let limit = Stores::LIMITS.records;
         let panel = self.panel(1, limit as f64 * 1.08);
+        let title =
+            "Records: arrivals the secondary holds until the handset has them, most in each second";
+        panel.frame(out, title, &quarters(limit))?;
+        panel.limit(out, limit, "records full")?;
+        panel.line(out, TEAL, |second| second.fullest.records as f64)?;
+
+        let limit = Stores::LIMITS.runs;
+        let panel = self.panel(2, limit as f64 * 1.08);
         let title = "Listed runs: losses the secondary has not reported yet, most in each second";
-        panel.frame(out, title, &[0.0, 64.0, 128.0, 192.0, 256.0])?;
-        panel.limit(out, limit, "256: list full")?;
-        panel.limit(out, MOST_RANGES, "162: frame full")?;
+        panel.frame(out, title, &quarters(limit))?;
+        panel.limit(out, limit, "list full")?;
+        panel.limit(out, MOST_RANGES, "frame full")?;
         panel.line(out, ORANGE, |second| second.fullest.runs as f64)
     }
 
     fn base(&self, out: &mut Formatter<'_>) -> fmt::Result {
-        let size = self.settings.opening().numbers() as f64;
-        let panel = self.panel(2, size);
+        let size = self.settings.opening().numbers() as usize;
+        let panel = self.panel(3, size as f64);
         let title = "Base: the lowest X2-U number still open at the secondary";
-        let quarters = [0.0, size / 4.0, size / 2.0, size * 0.75, size];
-        panel.frame(out, title, &quarters)?;
+        panel.frame(out, title, &quarters(size))?;
         for &time in &self.figures.numbers.times {
             let x = self.x(time as f64 / 1_000.0);
             stroke(out, [x, panel.top, x, panel.top + PANEL], RED, "2 3")?;
@@ -271,6 +273,33 @@ impl Chart<'_> {
         }
         Ok(())
     }
+
+    fn title(&self, out: &mut Formatter<'_>) -> fmt::Result {
+        let Settings {
+            bits,
+            rate,
+            seconds,
+            ..
+        } = self.settings;
+        let (minutes, rest) = (seconds / 60, seconds % 60);
+        let rate = grouped(u64::from(*rate));
+        let title = format!(
+            "Ramp soak: {minutes} min {rest:02} s, L = {bits}, {rate} packets a second asked for"
+        );
+        text(out, LEFT, 38.0, "start", "#111", 20.0, &title)?;
+        text(out, LEFT, 62.0, "start", "#444", 13.0, &self.subtitle)?;
+        let right = self.x(f64::INFINITY) + 8.0;
+        let (verdict, colour) = match self.verdict {
+            Verdict::Passed => ("PASSED", GREEN),
+            Verdict::Slow => ("PASSED", ORANGE),
+            Verdict::Failed => ("FAILED", RED),
+        };
+        text(out, right, 38.0, "start", colour, 20.0, verdict)?;
+        if self.verdict == Verdict::Slow {
+            text(out, right, 62.0, "start", ORANGE, 13.0, "rate not reached")?;
+        }
+        Ok(())
+    }
 }
 
 impl Display for Chart<'_> {
@@ -280,40 +309,13 @@ impl Display for Chart<'_> {
             r#"<svg xmlns="http://www.w3.org/2000/svg" width="{WIDTH}" height="{HEIGHT}" viewBox="0 0 {WIDTH} {HEIGHT}" font-family="DejaVu Sans, Arial, sans-serif">"#
         )?;
         writeln!(out, r#"<rect width="100%" height="100%" fill="white"/>"#)?;
-        let Settings {
-            bits,
-            rate,
-            seconds,
-            seed,
-            ..
-        } = self.settings;
-        let (minutes, rest) = (seconds / 60, seconds % 60);
-        let rate = grouped(u64::from(*rate));
-        let title = format!(
-            "Ramp soak: {minutes} min {rest:02} s, L = {bits}, {rate} packets a second, seed {seed}"
-        );
-        text(out, LEFT, 38.0, "start", "#111", 20.0, &title)?;
-        let (verdict, colour) = if self.passed {
-            ("PASSED", GREEN)
-        } else {
-            ("FAILED", RED)
-        };
-        let right = self.x(f64::INFINITY) + 8.0;
-        text(out, right, 38.0, "start", colour, 20.0, verdict)?;
-        text(out, LEFT, 62.0, "start", "#444", 13.0, &self.subtitle)?;
+        self.title(out)?;
         self.stores(out)?;
         self.base(out)?;
-        self.troubles(out, 826.0)?;
+        self.troubles(out, 1_061.0)?;
         let middle = (LEFT + self.x(f64::INFINITY)) / 2.0;
-        text(
-            out,
-            middle,
-            HEIGHT - 20.0,
-            "middle",
-            GREY,
-            13.0,
-            "minutes:seconds into the ramp",
-        )?;
+        let axis = "minutes:seconds into the ramp";
+        text(out, middle, HEIGHT - 20.0, "middle", GREY, 13.0, axis)?;
         writeln!(out, "</svg>")
     }
 }

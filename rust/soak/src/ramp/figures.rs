@@ -1,5 +1,7 @@
 //! What a ramp came to, in figures.
 
+use super::losses::Losses;
+use super::source::Flow;
 use super::weather::TROUBLES;
 use model::Pair;
 use x2u::frame::{self, Frame, MOST_RANGES};
@@ -47,6 +49,8 @@ pub struct Second {
     pub fullest: Stores,
     /// Base at its end.
     pub base: u32,
+    /// Packets sent in it.
+    pub sent: u64,
     /// Which troubles there were in it.
     pub troubles: Troubles,
 }
@@ -74,16 +78,16 @@ impl Rollovers {
 /// Counts over the whole ramp.
 #[derive(Clone, Debug, Default)]
 pub struct Figures {
-    /// Packets that the road dropped.
-    pub dropped: u64,
-    /// Second copies that arrived.
+    /// Packets that didn't arrive in time, and why.
+    pub losses: Losses,
+    /// What became of the packets that the source made.
+    pub flow: Flow,
+    /// Further copies sent after packets.
     pub copies: u64,
     /// Packets that arrived after a later one.
     pub overtaken: u64,
     /// Arrivals refused as late or repeated.
     pub strays: u64,
-    /// Times that a packet had to wait for room at the master.
-    pub waits: u64,
     /// PDCP numbers used on the master's own radio.
     pub own_radio: u64,
     /// Statuses with the highest held back, for more runs than a frame carries.
@@ -103,6 +107,7 @@ pub struct Figures {
     /// Second by second.
     pub seconds: Vec<Second>,
     now_fullest: Stores,
+    now_sent: u64,
     now_troubles: Troubles,
 }
 
@@ -111,6 +116,7 @@ impl Figures {
     pub fn sent(&mut self, number: u32, pdcp: u32, now: u64) {
         self.numbers.see(number, now);
         self.pdcp.see(pdcp, now);
+        self.now_sent += 1;
     }
 
     /// A status was built.
@@ -140,6 +146,7 @@ impl Figures {
         self.seconds.push(Second {
             fullest,
             base: pair.keeper.base(),
+            sent: std::mem::take(&mut self.now_sent),
             troubles: std::mem::take(&mut self.now_troubles),
         });
     }

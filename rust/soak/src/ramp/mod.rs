@@ -3,14 +3,26 @@
 
 pub mod bench;
 pub mod chart;
+pub mod conditions;
+pub mod facts;
 pub mod figures;
+pub mod files;
 pub mod link;
+pub mod losses;
 pub mod play;
+pub mod refusals;
 pub mod report;
+pub mod run;
+pub mod source;
+pub mod table;
+pub mod untested;
+pub mod verdict;
 pub mod weather;
+pub mod words;
 
 use model::Opening;
 use std::path::PathBuf;
+use std::time::Duration;
 
 /// What is played.
 #[derive(Clone, Debug)]
@@ -25,6 +37,8 @@ pub struct Settings {
     pub seconds: u32,
     /// Where chance begins.
     pub seed: u64,
+    /// How long the program may be silent while we wait for it.
+    pub patience: Duration,
 }
 
 impl Settings {

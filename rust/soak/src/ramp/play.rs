@@ -1,9 +1,16 @@
 //! Playing the ramp, millisecond by millisecond.
 
 use super::Settings;
-use super::bench::{Bench, Trouble, must_wait};
+use super::bench::{Bench, Trouble, held_by};
+use super::conditions::{
+    DESIRED_BELOW, GAP, HANDSET_AGAIN, HASTY, OLD_COPY, OLDEST_COPY, OWN_RADIO, OWN_RADIO_PACKETS,
+    ROLLOVER_DROPS, SHORT_BUFFER, SHORT_BUFFER_BELOW, SHOW, STATUS, STATUS_ARRIVALS, TAKE,
+    TAKE_MOST, TWIN_LATER, WIND_UP,
+};
 use super::figures::Figures;
 use super::link::Mismatch;
+use super::losses::By;
+use super::source::{HeldBy, Source};
 use super::weather::Weather;
 use crate::rng::Rng;
 use crate::table::Table;
@@ -11,19 +18,10 @@ use model::Opening;
 use model::demand::Tally;
 use std::cmp::Reverse;
 use std::collections::{BinaryHeap, VecDeque};
-use std::io;
 use x2u::frame::LONGEST;
 
-/// A gap this old, in milliseconds, is given up.
-const GAP: u64 = 30;
-/// A status is built at least this often, in milliseconds.
-const STATUS: u64 = 40;
-/// And after as many arrivals.
-const STATUS_ARRIVALS: u32 = 120;
-/// Both ends are shown after as many statuses.
-const SHOW: u32 = 20;
-
 /// How a ramp ended.
+#[derive(Default)]
 pub struct Ending {
     /// Its figures.
     pub figures: Figures,
@@ -31,8 +29,6 @@ pub struct Ending {
     pub tally: Tally,
     /// Packets sent.
     pub sent: u64,
-    /// Entries left in the ledger when all was over.
-    pub left: u64,
     /// Calls made on the program.
     pub calls: u64,
     /// Refusals met.
@@ -53,9 +49,7 @@ struct Play {
     rng: Rng,
     figures: Figures,
     now: u64,
-    rate: u64,
-    /// Packets that should have been sent by now, times 1,000.
-    due: u64,
+    source: Source,
     next_pdcp: u64,
     road: Queue,
     handset: Queue,
@@ -66,12 +60,16 @@ struct Play {
     newest_arrived: usize,
 }
 
-/// Plays a ramp, if the program can be started. `progress` is told every ten
-/// seconds of it.
-pub fn play(settings: &Settings, progress: impl FnMut(u64, &Figures, Tally)) -> io::Result<Ending> {
+/// Plays a ramp. `progress` is told every ten seconds of it.
+pub fn play(settings: &Settings, progress: impl FnMut(u64, &Figures, Tally)) -> Ending {
     let opening = settings.opening();
-    let bench = Bench::open(settings, opening)?;
-    Ok(Play::new(settings, opening, bench).run(settings, progress))
+    match Bench::open(settings, opening) {
+        Ok(bench) => Play::new(settings, opening, bench).run(settings, progress),
+        Err(error) => Ending {
+            trouble: Some(Trouble::Start(error.to_string())),
+            ..Ending::default()
+        },
+    }
 }
 
 impl Play {
@@ -85,8 +83,7 @@ impl Play {
             rng,
             figures: Figures::default(),
             now: 0,
-            rate: u64::from(settings.rate),
-            due: 0,
+            source: Source::new(settings.rate),
             next_pdcp: opening.first_pdcp,
             road: Queue::new(),
             handset: Queue::new(),
@@ -100,6 +97,11 @@ impl Play {
 
     fn run(mut self, settings: &Settings, progress: impl FnMut(u64, &Figures, Tally)) -> Ending {
         let trouble = self.warm_up(settings, progress).err();
+        if trouble.is_some() {
+            self.figures.second(&self.bench.pair);
+        }
+        self.figures.flow = self.source.flow();
+        self.figures.losses.end(self.bench.pair.watch.base());
         let sent = self.bench.pair.watch.sent_count() as u64;
         let calls = self.bench.calls;
         let (pair, table, mismatch) = self.bench.finish();
@@ -107,7 +109,6 @@ impl Play {
             figures: self.figures,
             tally: pair.tally(),
             sent,
-            left: pair.ledger.entry_count() as u64,
             calls,
             table,
             trouble,
@@ -144,54 +145,55 @@ impl Play {
         self.confirm_due()?;
         self.build_status()?;
         self.deliver_due()?;
-        if self.now.is_multiple_of(10) && !self.weather.leaves_losses() {
-            self.take_some(60)?;
+        if self.now.is_multiple_of(TAKE) && !self.weather.leaves_losses() {
+            self.take_some(TAKE_MOST)?;
         }
         Ok(())
     }
 
     fn sends(&mut self) -> Result<(), Trouble> {
-        // What can't be sent at once is made up for, but not without end.
-        self.due = (self.due + self.rate).min(1_000 * (20 + self.rate / 50));
+        self.source.offer(self.now);
         if self.weather.holds_sending() {
+            self.source.held(HeldBy::Pause);
             return Ok(());
         }
-        while self.due >= 1_000 {
+        while self.source.has_packet() {
             let pdcp = (self.next_pdcp % self.opening.pdcps()) as u32;
             match self.bench.send(pdcp)? {
                 Ok(number) => self.went_out(number, pdcp),
-                Err(refusal) if must_wait(refusal) => {
-                    self.figures.waits += 1;
+                Err(refusal) => {
+                    let by = held_by(refusal).ok_or_else(|| {
+                        Trouble::Demand(format!("a send was refused: {refusal:?}"))
+                    })?;
+                    self.source.held(by);
                     return Ok(());
                 }
-                Err(refusal) => {
-                    return Err(Trouble::Demand(format!("a send was refused: {refusal:?}")));
-                }
             }
-            self.due -= 1_000;
         }
         Ok(())
     }
 
     fn went_out(&mut self, number: u32, pdcp: u32) {
-        self.figures.sent(number, pdcp, self.now);
+        self.source.sent(self.now);
         // A few packets go over the master's own radio and use up their numbers.
-        let skipped = if self.rng.once_in(200) {
-            self.rng.within(1..4)
+        let skipped = if self.rng.once_in(OWN_RADIO) {
+            self.rng.within(OWN_RADIO_PACKETS)
         } else {
             0
         };
         self.next_pdcp += 1 + u64::from(skipped);
         self.figures.own_radio += u64::from(skipped);
         let packet = self.bench.pair.watch.sent_count() - 1;
-        if self.weather.drops() || self.drops_over_rollover(number) {
-            self.figures.dropped += 1;
+        self.figures.sent(number, pdcp, self.now);
+        let dropped = self.weather.drops() || self.drops_over_rollover(number);
+        self.figures.losses.sent(dropped);
+        if dropped {
             return;
         }
         self.road
             .push(Reverse((self.now + self.weather.road(), packet)));
         if self.weather.copies() {
-            let later = self.now + 10 * self.weather.road();
+            let later = self.now + TWIN_LATER * self.weather.road();
             self.road.push(Reverse((later, packet)));
             self.figures.copies += 1;
         }
@@ -203,15 +205,15 @@ impl Play {
         let (number, size) = (u64::from(number), self.opening.numbers());
         let met = self.figures.numbers.times.len();
         // Just after a rollover, it is among those met.
-        let burst_now = met.is_multiple_of(2) != (number < 5);
-        burst_now && (number < 5 || number >= size - 5)
+        let burst_now = met.is_multiple_of(2) != (number < ROLLOVER_DROPS);
+        burst_now && (number < ROLLOVER_DROPS || number >= size - ROLLOVER_DROPS)
     }
 
     fn arrive_due(&mut self) -> Result<(), Trouble> {
         while let Some(packet) = pop_due(&mut self.road, self.now) {
             self.arrive(packet)?;
         }
-        if self.rng.once_in(400) {
+        if self.rng.once_in(OLD_COPY) {
             self.arrive_old_copy()?;
         }
         Ok(())
@@ -222,7 +224,9 @@ impl Play {
             return Ok(());
         }
         match self.bench.arrive(packet)? {
-            Ok(_) => {
+            Ok(lost) => {
+                self.figures.losses.arrived(packet);
+                self.gave_up(lost, By::Window);
                 let due = self.now + self.weather.handset();
                 self.handset.push(Reverse((due, packet)));
                 self.figures.overtaken += u64::from(packet < self.newest_arrived);
@@ -239,7 +243,7 @@ impl Play {
         let sent = self.bench.pair.watch.sent_count();
         let oldest = sent.saturating_sub(self.opening.numbers() as usize / 2);
         if sent > 0 {
-            let exactly = self.rng.once_in(4);
+            let exactly = self.rng.once_in(OLDEST_COPY);
             let age = if exactly {
                 0
             } else {
@@ -262,9 +266,23 @@ impl Play {
             .gap_since
             .is_some_and(|(_, since)| self.now - since >= GAP)
         {
-            let _ = self.bench.expire()?;
+            self.expire()?;
         }
         Ok(())
+    }
+
+    fn expire(&mut self) -> Result<(), Trouble> {
+        if let Ok(lost) = self.bench.expire()? {
+            self.gave_up(lost, By::Expiry);
+        }
+        Ok(())
+    }
+
+    /// So many packets were declared lost just now.
+    fn gave_up(&mut self, lost: u32, by: By) {
+        for packet in self.bench.pair.watch.last_lost(lost) {
+            self.figures.losses.lost(packet, by);
+        }
     }
 
     fn confirm_due(&mut self) -> Result<(), Trouble> {
@@ -274,11 +292,12 @@ impl Play {
         while let Some(packet) = pop_due(&mut self.handset, self.now) {
             let in_order = packet < self.bench.pair.watch.base();
             // A packet above a gap has to wait; a hasty handset is refused.
-            if in_order || self.rng.once_in(100) {
+            if in_order || self.rng.once_in(HASTY) {
                 let _ = self.bench.confirm(packet)?;
             }
             if !in_order {
-                self.handset.push(Reverse((self.now + 3, packet)));
+                self.handset
+                    .push(Reverse((self.now + HANDSET_AGAIN, packet)));
             }
         }
         Ok(())
@@ -298,10 +317,10 @@ impl Play {
     }
 
     fn status(&mut self, is_final: bool) -> Result<(), Trouble> {
-        let desired = self.rng.within(0..2_000_000);
-        if self.rng.once_in(30) {
+        let desired = self.rng.within(0..DESIRED_BELOW);
+        if self.rng.once_in(SHORT_BUFFER) {
             // The host's buffer is too short, and it tries again.
-            let room = self.rng.place(14);
+            let room = self.rng.place(SHORT_BUFFER_BELOW);
             let _ = self.bench.status(desired, is_final, room)?;
         }
         if let Ok(octets) = self.bench.status(desired, is_final, LONGEST)? {
@@ -338,9 +357,9 @@ impl Play {
 
     /// Sending is over: what is under way arrives, and the bearer is closed.
     fn wind_up(&mut self) -> Result<(), Trouble> {
-        self.now += 10_000;
+        self.now += WIND_UP;
         self.arrive_due()?;
-        let _ = self.bench.expire()?;
+        self.expire()?;
         while let Some(Reverse((_, packet))) = self.handset.pop() {
             let _ = self.bench.confirm(packet)?;
         }

@@ -2,6 +2,10 @@
 //! begin now and then, each lasting long enough to bring a store near its
 //! limit at the chosen packet rate.
 
+use super::conditions::{
+    ASLEEP, BURST, COMB_FIRST, COMB_OVER, COMB_PACKETS, COMB_PAUSE, COMB_QUIET, COMB_TEETH, DROPS,
+    HANDSET, NOT_TAKEN, OVERTAKEN, OVERTAKEN_BY, ROAD, ROAD_BACK, STUCK, Spells, TWIN,
+};
 use crate::rng::Rng;
 use std::ops::Range;
 
@@ -14,7 +18,8 @@ struct Spell {
 }
 
 impl Spell {
-    fn new(pause: Range<u32>, lasts: Range<u32>, rng: &mut Rng) -> Self {
+    fn new(spells: &Spells, rate: u32, rng: &mut Rng) -> Self {
+        let (pause, lasts) = (spells.pause.clone(), spells.lasts.at(rate));
         let from = u64::from(rng.within(pause.clone()));
         let until = from + u64::from(rng.within(lasts.clone()));
         Self {
@@ -90,20 +95,15 @@ impl Weather {
     #[must_use]
     pub fn new(rate: u32, seconds: u32, rng: Rng) -> Self {
         let mut rng = rng;
-        // At least one millisecond, whatever the rate.
-        let packets = |count: u32| (count * 1_000 / rate).max(1);
-        let spell = |pause: Range<u32>, lasts: Range<u32>, rng: &mut Rng| {
-            Spell::new(pause, lasts.start..lasts.end.max(lasts.start + 1), rng)
-        };
         Self {
             now: 0,
             whole: u64::from(seconds) * 1_000,
             packet: 1_000_000 / u64::from(rate.max(1)),
-            burst: spell(400..2_500, packets(2)..packets(120), &mut rng),
-            stuck: spell(15_000..40_000, packets(350)..packets(700), &mut rng),
-            asleep: spell(17_000..45_000, packets(350)..packets(700), &mut rng),
-            idle_master: spell(20_000..50_000, 1_500..6_000, &mut rng),
-            comb: Comb::Idle { until: 5_000 },
+            burst: Spell::new(&BURST, rate, &mut rng),
+            stuck: Spell::new(&STUCK, rate, &mut rng),
+            asleep: Spell::new(&ASLEEP, rate, &mut rng),
+            idle_master: Spell::new(&NOT_TAKEN, rate, &mut rng),
+            comb: Comb::Idle { until: COMB_FIRST },
             rng,
         }
     }
@@ -125,16 +125,18 @@ impl Weather {
     fn combed(&mut self, ledger_fill: usize) -> Comb {
         let now = self.now;
         match self.comb {
-            Comb::Idle { until } if now >= until => Comb::Quiet { until: now + 1_500 },
-            Comb::Quiet { until } if ledger_fill == 0 || now >= until => Comb::Teeth {
-                left: self.rng.pick(&[300, 400, 480, 505, 512]),
-                until: now + 700 * self.packet / 1_000,
+            Comb::Idle { until } if now >= until => Comb::Quiet {
+                until: now + COMB_QUIET,
             },
-            Comb::Teeth { left, until } if left == 0 || now >= until => {
-                Comb::Over { until: now + 80 }
-            }
+            Comb::Quiet { until } if ledger_fill == 0 || now >= until => Comb::Teeth {
+                left: self.rng.pick(&COMB_TEETH),
+                until: now + COMB_PACKETS * self.packet / 1_000,
+            },
+            Comb::Teeth { left, until } if left == 0 || now >= until => Comb::Over {
+                until: now + COMB_OVER,
+            },
             Comb::Over { until } if now >= until => Comb::Idle {
-                until: now + u64::from(self.rng.within(12_000..30_000)),
+                until: now + u64::from(self.rng.within(COMB_PAUSE)),
             },
             comb => comb,
         }
@@ -156,13 +158,15 @@ impl Weather {
             *left = left.saturating_sub(1);
             return *left % 2 == 1;
         }
-        let at_random = f64::from(self.rng.within(0..1_000)) < 1.0 + 7.0 * self.trouble();
+        let [ends, middle] = DROPS;
+        let drops = ends + (middle - ends) * self.trouble();
+        let at_random = f64::from(self.rng.within(0..1_000)) < drops;
         at_random || self.troubles()[0]
     }
 
     /// Whether the packet sent now gets a twin.
     pub fn copies(&mut self) -> bool {
-        self.rng.once_in(50)
+        self.rng.once_in(TWIN)
     }
 
     /// Whether the master sends nothing for now.
@@ -203,17 +207,17 @@ impl Weather {
 
     /// Milliseconds to the secondary; some packets are overtaken on the way.
     pub fn road(&mut self) -> u64 {
-        let overtaken = if self.rng.once_in(40) {
-            self.rng.within(2..45)
+        let overtaken = if self.rng.once_in(OVERTAKEN) {
+            self.rng.within(OVERTAKEN_BY)
         } else {
             0
         };
-        u64::from(6 + self.rng.within(0..2) + overtaken)
+        u64::from(self.rng.within(ROAD) + overtaken)
     }
 
     /// Milliseconds until the handset confirms a packet.
     pub fn handset(&mut self) -> u64 {
-        u64::from(8 + self.rng.within(0..12))
+        self.rng.within(HANDSET).into()
     }
 
     /// Milliseconds from the secondary back to the master.
@@ -223,6 +227,6 @@ impl Weather {
         } else {
             0
         };
-        stuck + u64::from(6 + self.rng.within(0..6))
+        stuck + u64::from(self.rng.within(ROAD_BACK))
     }
 }

@@ -1,4 +1,4 @@
--- `x2u_write_status`: the writer's answer, as one number. Assumes nothing.
+-- `x2u_write_status_parts`: the writer's answer, as one number. Assumes nothing.
 use mathlib.Core.Path.{_≡_, _∙_, ap, ap₂}
 use native.Mathlib.Omega.{arith}
 use mathlib.Core.Bool.{Bool}
@@ -12,8 +12,8 @@ use Rattle.frame_layout.proofs.Within.{within-status}
 use Rattle.c_calls.specs.Boundary.{mostAnswer, writes}
 use Rattle.c_frames.proofs.Wrote.{wrote, whole-frame}
 use borrow.Author.Needs.{needs}
-use Rattle.c_frames.proofs.x2u_write_status.Statement.{statement}
-use Rattle.c_frames.proofs.x2u_write_status.Tie as tie
+use Rattle.c_frames.proofs.x2u_write_status_parts.Statement.{statement}
+use Rattle.c_frames.proofs.x2u_write_status_parts.Tie as tie
 
 -- ---- places of the code: the writer's answer, by each way, both flags, and the call
 
@@ -104,8 +104,8 @@ returns-2 c =
     let k = said-refused n in
     left-as (c .refused .ok) (c .refused .ensures) (ap writes (wrote _ _ _ _ (k .write-status .ensures) (n .n2 .given .1) ∙ form k))
 
-pub x2u-write-status-spec : {M : Type 1} → statement M
-x2u-write-status-spec =
+pub x2u-write-status-parts-spec : {M : Type 1} → statement M
+x2u-write-status-parts-spec =
     tie.close
     (tie.spec
     is-set-requires

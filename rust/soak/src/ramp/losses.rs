@@ -1,0 +1,91 @@
+//! Why packets are declared lost, and what becomes of those that are dropped.
+
+/// What gave a packet up.
+#[derive(Clone, Copy, Debug, PartialEq, Eq)]
+pub enum By {
+    /// An expiry.
+    Expiry,
+    /// An arrival 256 or more above it.
+    Window,
+}
+
+/// Packets declared lost, by what gave them up.
+#[derive(Clone, Copy, Debug, Default, PartialEq, Eq)]
+pub struct GivenUp {
+    /// By expiries.
+    pub by_expiry: u64,
+    /// By arrivals.
+    pub by_window: u64,
+}
+
+impl GivenUp {
+    /// All of them.
+    #[must_use]
+    pub fn sum(self) -> u64 {
+        self.by_expiry + self.by_window
+    }
+
+    fn count(&mut self, by: By) {
+        match by {
+            By::Expiry => self.by_expiry += 1,
+            By::Window => self.by_window += 1,
+        }
+    }
+}
+
+/// The account of all packets that didn't arrive in time.
+#[derive(Clone, Debug, Default)]
+pub struct Losses {
+    /// Packet by packet, whether the road dropped it.
+    dropped: Vec<bool>,
+    /// Dropped, and declared lost.
+    pub dropped_lost: GivenUp,
+    /// Declared lost while it was still on the road: merely late.
+    pub late: GivenUp,
+    /// Dropped, but a copy from long ago came before it was given up.
+    pub saved: u64,
+    /// Dropped, and never declared lost: no later packet arrived before the end.
+    pub never_declared: u64,
+}
+
+impl Losses {
+    /// The next packet went out.
+    pub fn sent(&mut self, dropped: bool) {
+        self.dropped.push(dropped);
+    }
+
+    /// A packet was accepted by the secondary.
+    pub fn arrived(&mut self, packet: usize) {
+        self.saved += u64::from(self.dropped[packet]);
+    }
+
+    /// A packet was declared lost.
+    pub fn lost(&mut self, packet: usize, by: By) {
+        if self.dropped[packet] {
+            self.dropped_lost.count(by);
+        } else {
+            self.late.count(by);
+        }
+    }
+
+    /// All is over, and every packet from `base` on is still open.
+    pub fn end(&mut self, base: usize) {
+        let open = self.dropped.get(base..).unwrap_or_default();
+        self.never_declared = open.iter().filter(|&&dropped| dropped).count() as u64;
+    }
+
+    /// Packets that the road dropped.
+    #[must_use]
+    pub fn dropped(&self) -> u64 {
+        self.dropped.iter().filter(|&&dropped| dropped).count() as u64
+    }
+
+    /// Whether the causes add up to all that were declared lost, and what
+    /// became of the dropped ones to all of those.
+    #[must_use]
+    pub fn add_up(&self, declared: u64) -> bool {
+        let lost = self.dropped_lost.sum();
+        lost + self.late.sum() == declared
+            && lost + self.saved + self.never_declared == self.dropped()
+    }
+}
