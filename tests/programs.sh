@@ -194,8 +194,12 @@ for name in lister replay; do
   timeout 60 "$command" $input.many >from 2>err &
   running=$!
   exec {from}<from
-  sleep 1.5
-  program=$(child "$(child $running)")
+  # it is stopped once it waits in a write, the pipe being full
+  for _ in $(seq 100); do
+    sleep 0.1
+    program=$(child "$(child $running)")
+    if grep -qs pipe_write "/proc/$program/wchan"; then break; fi
+  done
   kill -STOP "$program" && sleep 0.2 && kill -CONT "$program"
   { uniq -c <&$from | sed 's/^ *//'; wait $running; echo "status $?"; } >out
   exec {from}<&-

@@ -5,6 +5,7 @@ use mathlib.Core.Path.{_≡_}
 use mathlib.Core.List.{List, _++_}
 use Prim.Native.Nat.{ℕ, _+_, _%_, _^_, _≤_}
 use lib.Dec.{eqb}
+use lib.IntN.{ℤ, pos, negsuc}
 use lib.ListN.{length, take}
 use Rattle.lister_text.specs.Texts.{ascii, lineFeeds, decimal}
 use Rattle.program_io.specs.declared.Written.{Written}
@@ -24,6 +25,11 @@ mostWord = 24
 -- how many lines a program of that name answered
 abbrev pub answered : List ℕ → ℕ → List ℕ
 answered name lines = name ++ ascii ": lines answered: " ++ decimal lines
+
+-- the number of an error, as C holds it: none is below 0
+abbrev pub errorNumber : ℤ → ℕ
+errorNumber (pos n) = n
+errorNumber (negsuc n) = 0
 
 -- what failed, and the error's number
 abbrev pub failed : List ℕ → ℕ → List ℕ

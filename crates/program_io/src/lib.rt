@@ -1,13 +1,14 @@
 // What the programs do alike with standard input and output: one read, the answers written and counted, and what they say where one of
 // these fails. What is read, and what comes of octets that are written, no contract can say.
 ghost use mathlib.Core.Path.{_≡_};
+ghost use mathlib.Core.Bool.{true};
 ghost use Prim.Native.Nat.{_≤_, _<_};
 ghost use lib.ListN.{length, take};
 ghost use Rattle.io.specs.Counts.{Counts};
 ghost use Rattle.basics.specs.Laid.{Laid};
 ghost use Rattle.lister_text.specs.Texts.{lineFeeds};
 ghost use Rattle.program_io.specs.Reads.{readsLeft};
-ghost use Rattle.program_io.specs.Failures.{Writes, mostWord, answered, failed, failing};
+ghost use Rattle.program_io.specs.Failures.{Writes, mostWord, errorNumber, answered, failed, failing};
 use libc::STDERR_FILENO;
 use libc::STDIN_FILENO;
 use libc::STDOUT_FILENO;
@@ -39,6 +40,7 @@ pub struct Written {
 // Reads once.
 pub fn read_block(block: &mut [u8]) -> Came
     ensures { λ r. ⌜ Counts (r .octets) (now (block .exit)) ⌝ }
+    ensures { λ r. ⌜ (r .failed ≡ true → r .octets ≡ 0) ⌝ }
 {
     let got = libc::read(STDIN_FILENO, block);
     Came {
@@ -126,8 +128,10 @@ pub fn write_answers(name: &[u8], out: &[u8], n: usize, lines: u64) -> Written
 
 // ---- what is said on standard error
 
-// The number of an error, as C has it: none is below 0.
-fn error_number(error: i32) -> u32 {
+// The number of an error, as C holds it: none is below 0.
+fn error_number(error: i32) -> u32
+    ensures { λ r. ⌜ r ≡ errorNumber error ⌝ }
+{
     if error > 0 {
         return error as u32;
     }
@@ -161,13 +165,13 @@ pub fn failure_text(
     name: &[u8],
     what: &[u8],
     lines: u64,
-    error: u32,
+    error: i32,
     out: &mut FailureArray,
 ) -> usize
-    ensures { λ r. ⌜ Laid (now (out .entry)) 0 (failing (take mostWord (now (name .entry))) (take mostWord (now (what .entry))) lines error) r (now (out .exit)) ⌝ }
+    ensures { λ r. ⌜ Laid (now (out .entry)) 0 (failing (take mostWord (now (name .entry))) (take mostWord (now (what .entry))) lines (errorNumber error)) r (now (out .exit)) ⌝ }
 {
     let at = lay_answered(name, lines, out);
-    lay_failed(what, error, out, at)
+    lay_failed(what, error_number(error), out, at)
 }
 
 // An empty buffer for that.
@@ -178,14 +182,14 @@ fn empty_text() -> FailureArray
 }
 
 // Says on standard error what failed, by way of a buffer.
-fn tell(name: &[u8], what: &[u8], lines: u64, error: u32, text: &mut FailureArray) {
+fn tell(name: &[u8], what: &[u8], lines: u64, error: i32, text: &mut FailureArray) {
     let n = failure_text(name, what, lines, error, text);
     os::fail(basics::front(text, n));
 }
 
 // Says on standard error what failed, right after it did.
 pub fn say_failed(name: &[u8], what: &[u8], lines: u64) {
-    let error = error_number(os::errno());
+    let error = os::errno();
     let mut text = empty_text();
     tell(name, what, lines, error, &mut text);
 }

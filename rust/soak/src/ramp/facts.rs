@@ -125,29 +125,22 @@ impl Moment {
     /// For a report.
     #[must_use]
     pub fn words(self) -> String {
-        let Self {
-            year,
-            month,
-            day,
-            hour,
-            minute,
-            second,
-        } = self;
-        format!("{year:04}-{month:02}-{day:02} {hour:02}:{minute:02}:{second:02} UTC")
+        self.joined(["-", " ", ":", " UTC"])
     }
 
     /// For the name of a file.
     #[must_use]
     pub fn stamp(self) -> String {
-        let Self {
-            year,
-            month,
-            day,
-            hour,
-            minute,
-            second,
-        } = self;
-        format!("{year:04}{month:02}{day:02}T{hour:02}{minute:02}{second:02}Z")
+        self.joined(["", "T", "", "Z"])
+    }
+
+    /// Day and time with these marks: within the day, between both, within the
+    /// time, and behind it.
+    fn joined(self, [day, between, time, end]: [&str; 4]) -> String {
+        format!(
+            "{:04}{day}{:02}{day}{:02}{between}{:02}{time}{:02}{time}{:02}{end}",
+            self.year, self.month, self.day, self.hour, self.minute, self.second
+        )
     }
 }
 

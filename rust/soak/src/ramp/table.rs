@@ -67,68 +67,46 @@ impl Table {
     }
 }
 
-const HEAD: [&str; 11] = [
-    "L",
-    "seed",
-    "result",
-    "sent",
-    "rate",
-    "lost",
-    "freed",
-    "taken",
-    "X2-U",
-    "PDCP",
-    "mismatches",
+/// What the columns are called, and how wide they are.
+const COLUMNS: [(&str, usize); 11] = [
+    ("L", 2),
+    ("seed", 6),
+    ("result", 24),
+    ("sent", 11),
+    ("rate", 7),
+    ("lost", 9),
+    ("freed", 11),
+    ("taken", 9),
+    ("X2-U", 5),
+    ("PDCP", 5),
+    ("mismatches", 10),
 ];
 
-/// A row's cells, as the head has them.
-fn cells(row: &Played) -> [String; HEAD.len()] {
-    let [sent, rate, lost, freed, taken] = [
-        row.sent[0],
-        row.sent[1],
-        row.tally.lost,
-        row.tally.freed,
-        row.tally.taken,
-    ]
-    .map(grouped);
-    let [numbers, pdcp] = row.rollovers.map(|met| met.to_string());
+/// A row's cells, as the columns are.
+fn cells(row: &Played) -> [String; COLUMNS.len()] {
     [
         row.bits.to_string(),
         row.seed.to_string(),
         row.verdict.word().to_owned(),
-        sent,
-        rate,
-        lost,
-        freed,
-        taken,
-        numbers,
-        pdcp,
+        grouped(row.sent[0]),
+        grouped(row.sent[1]),
+        grouped(row.tally.lost),
+        grouped(row.tally.freed),
+        grouped(row.tally.taken),
+        row.rollovers[0].to_string(),
+        row.rollovers[1].to_string(),
         row.mismatches.to_string(),
     ]
 }
 
-fn line(out: &mut Formatter<'_>, cells: &[String; HEAD.len()], report: &str) -> fmt::Result {
-    let [
-        bits,
-        seed,
-        result,
-        sent,
-        rate,
-        lost,
-        freed,
-        taken,
-        numbers,
-        pdcp,
-        mismatches,
-    ] = cells;
-    write!(
-        out,
-        "{bits:>2} {seed:>6}  {result:<24} {sent:>11} {rate:>7} {lost:>9} {freed:>11} "
-    )?;
-    writeln!(
-        out,
-        "{taken:>9} {numbers:>5} {pdcp:>5} {mismatches:>10}  {report}"
-    )
+fn line(out: &mut Formatter<'_>, cells: &[String; COLUMNS.len()], report: &str) -> fmt::Result {
+    for (cell, (name, width)) in cells.iter().zip(COLUMNS) {
+        match name {
+            "result" => write!(out, " {cell:<width$} ")?,
+            _ => write!(out, "{cell:>width$} ")?,
+        }
+    }
+    writeln!(out, " {report}")
 }
 
 impl Display for Table {
@@ -148,7 +126,7 @@ impl Display for Table {
             facts.build.words(),
             facts.hash
         )?;
-        line(out, &HEAD.map(str::to_owned), "report")?;
+        line(out, &COLUMNS.map(|(name, _)| name.to_owned()), "report")?;
         for row in &self.rows {
             line(out, &cells(row), &row.report_file)?;
         }
