@@ -39,8 +39,8 @@ module _ (w : Words) (runs : List Range) (records : List Record) (final : Bool) 
 -- ---- the records from place i on
 
 -- a record that may go, by the starts of the runs left out
-abbrev pub goes : ℕ → ℕ → List ℕ → Record → Bool
-goes M base ss r = goesBefore M base ss (r .number) (r .confirmed)
+abbrev pub goes : ℕ → List ℕ → Record → Bool
+goes M ss r = goesBefore M ss (r .number) (r .confirmed)
 
 -- the highest that is reported when so many go
 abbrev pub highestAt : ℕ → List ℕ → ℕ → ℕ
@@ -61,15 +61,15 @@ module _ (ns ps cs : List ℕ) (lp : length ns ≡ length ps) (lc : length ns �
   pub count-all : length (recordsOf ns ps cs) ≡ length ns
   count-all = omega (arith, records-count ns ps cs)
 
-  module _ (M base : ℕ) (ss : List ℕ) (i : ℕ) (h : i < length ns) where
+  module _ (M : ℕ) (ss : List ℕ) (i : ℕ) (h : i < length ns) where
     from-here : drop i (recordsOf ns ps cs) ≡ recordOf (getD ns i 0) (getD ps i 0) (getD cs i 0) ∷ drop (i + 1) (recordsOf ns ps cs)
     from-here = rw (drop-cons (recordsOf ns ps cs) i noRecord (omega (arith, count-all)), record-at i ns ps cs h (omega arith) (omega arith), add-one i)
 
-    pub go-stops : goesBefore M base ss (getD ns i 0) (isSet (getD cs i 0)) ≡ false → runWith (goes M base ss) (drop i (recordsOf ns ps cs)) ≡ 0
+    pub go-stops : goesBefore M ss (getD ns i 0) (isSet (getD cs i 0)) ≡ false → runWith (goes M ss) (drop i (recordsOf ns ps cs)) ≡ 0
     go-stops e = rw (from-here, e)
 
-    pub go-more : goesBefore M base ss (getD ns i 0) (isSet (getD cs i 0)) ≡ true
-        → runWith (goes M base ss) (drop i (recordsOf ns ps cs)) ≡ suc (runWith (goes M base ss) (drop (i + 1) (recordsOf ns ps cs)))
+    pub go-more : goesBefore M ss (getD ns i 0) (isSet (getD cs i 0)) ≡ true
+        → runWith (goes M ss) (drop i (recordsOf ns ps cs)) ≡ suc (runWith (goes M ss) (drop (i + 1) (recordsOf ns ps cs)))
     go-more e = rw (from-here, e)
 
   -- the highest is the last one's that goes
@@ -79,12 +79,12 @@ module _ (ns ps cs : List ℕ) (lp : length ns ≡ length ps) (lc : length ns �
 
   -- what is counted is what the machine lets go
   pub gone-is : (w : Words) (runs : List Range) (ss : List ℕ) (count highest : ℕ) → startsOf runs ≡ ss
-      → count ≤ length ns → runWith (goes (modulusIn w) (w .base) (drop mostRanges ss)) (recordsOf ns ps cs) ≡ count → highest ≡ highestAt (w .reported) ps count
+      → count ≤ length ns → runWith (goes (modulusIn w) (drop mostRanges ss)) (recordsOf ns ps cs) ≡ count → highest ≡ highestAt (w .reported) ps count
       → record { count = count; highest = highest } ≡ goneOf (stateOf w runs (recordsOf ns ps cs))
   gone-is w runs ss count highest seen within all high =
       let left : startsOf (drop mostRanges runs) ≡ drop mostRanges ss = map-drop mostRanges runs ∙ ap (drop mostRanges) seen in
       let go : letGo (stateOf w runs (recordsOf ns ps cs)) ≡ count =
-      ap (λ (ss : List ℕ). runWith (goes (modulusIn w) (w .base) ss) (recordsOf ns ps cs)) left ∙ all in
+      ap (λ (ss : List ℕ). runWith (goes (modulusIn w) ss) (recordsOf ns ps cs)) left ∙ all in
       rw (go, high, highest-is w runs count within)
     where
       map-drop : (i : ℕ) (rs : List Range) → startsOf (drop i rs) ≡ drop i (startsOf rs)

@@ -116,11 +116,10 @@ fn let_go(w: Words, numbers: &[u32], pdcps: &[u32], marks: &[u32], starts: &[u32
         → r ≡ goneOf (stateOf w runs (recordsOf (now (numbers .entry)) (now (pdcps .entry)) (now (marks .entry))))) ⌝ }
 {
     let long = circle::is_long(w.bits);
-    let base = w.base;
     let mut highest = w.reported;
     let mut i = 0;
     while i < numbers.len() {
-        if !may_go(starts, base, long, numbers[i], marks[i]) {
+        if !may_go(starts, long, numbers[i], marks[i]) {
             return Gone {
                 count: i,
                 highest: highest,
@@ -136,8 +135,8 @@ fn let_go(w: Words, numbers: &[u32], pdcps: &[u32], marks: &[u32], starts: &[u32
 }
 
 // Whether a record may go.
-fn may_go(starts: &[u32], base: u32, long: bool, number: u32, mark: u32) -> bool
-    ensures { λ r. ⌜ r ≡ goesBefore (modulus long) base (drop mostRanges (now (starts .entry))) number (isSet mark) ⌝ }
+fn may_go(starts: &[u32], long: bool, number: u32, mark: u32) -> bool
+    ensures { λ r. ⌜ r ≡ goesBefore (modulus long) (drop mostRanges (now (starts .entry))) number (isSet mark) ⌝ }
 {
     if mark == 0 {
         return false;
@@ -145,5 +144,5 @@ fn may_go(starts: &[u32], base: u32, long: bool, number: u32, mark: u32) -> bool
     if starts.len() <= MOST_RANGES {
         return true;
     }
-    circle::distance(starts[MOST_RANGES], base, long) < circle::distance(number, base, long)
+    keeper_loss::is_before(starts[MOST_RANGES], number, long)
 }

@@ -20,13 +20,13 @@ use Rattle.keeper_report.proofs.let_go.Statement.{statement}
 use Rattle.keeper_report.proofs.let_go.Tie as tie
 
 abbrev Inv-loop : tie.InvT-loop
-Inv-loop numbers pdcps marks starts long base highest₀ i₀ highest i =
+Inv-loop numbers pdcps marks starts long highest₀ i₀ highest i =
     (i ≤ length numbers) × (highest ≡ highestAt highest₀ pdcps i)
-    × (runWith (goes (modulus long) base (drop mostRanges starts)) (recordsOf numbers pdcps marks)
-    ≡ i + runWith (goes (modulus long) base (drop mostRanges starts)) (drop i (recordsOf numbers pdcps marks)))
+    × (runWith (goes (modulus long) (drop mostRanges starts)) (recordsOf numbers pdcps marks)
+    ≡ i + runWith (goes (modulus long) (drop mostRanges starts)) (drop i (recordsOf numbers pdcps marks)))
 
 abbrev μ-loop : tie.MeasureT-loop
-μ-loop numbers pdcps marks starts long base highest₀ i₀ highest i = length numbers - i
+μ-loop numbers pdcps marks starts long highest₀ i₀ highest i = length numbers - i
 
 -- ---- the places
 
@@ -57,16 +57,16 @@ records c = let a = start c .args in recordsOf (a .numbers .now) (a .pdcps .now)
 abbrev goes-now : Loop → Bool
 goes-now c =
     let a = start c .args in
-    goesBefore (M c) (a .w .base) (left c) (getD (a .numbers .now) (c .loop .i) 0) (isSet (getD (a .marks .now) (c .loop .i) 0))
+    goesBefore (M c) (left c) (getD (a .numbers .now) (c .loop .i) 0) (isSet (getD (a .marks .now) (c .loop .i) 0))
 
 -- where the loop ends, all that the machine lets go is counted
-ended : (c : Loop) → runWith (goes (M c) (start c .args .w .base) (left c)) (records c) ≡ c .loop .i → (runs : List Range) → startsOf runs ≡ start c .args .starts .now
+ended : (c : Loop) → runWith (goes (M c) (left c)) (records c) ≡ c .loop .i → (runs : List Range) → startsOf runs ≡ start c .args .starts .now
     → record { count = c .loop .i; highest = c .loop .highest } ≡ goneOf (stateOf (start c .args .w) runs (records c))
 ended c all runs seen =
     let s = start c in
     let a = s .args in
     gone-is (a .numbers .now) (a .pdcps .now) (a .marks .now) (s .pre .0) (s .pre .1) (a .w) runs (a .starts .now) (c .loop .i) (c .loop .highest) seen (c .loop .inv .0)
-    (ap (λ (b : Bool). runWith (goes (modulus b) (a .w .base) (left c)) (records c)) (sym (c .before .is-long .ensures)) ∙ all) (c .loop .inv .1)
+    (ap (λ (b : Bool). runWith (goes (modulus b) (left c)) (records c)) (sym (c .before .is-long .ensures)) ∙ all) (c .loop .inv .1)
 
 -- ---- the needs
 
@@ -97,7 +97,7 @@ returns c =
     let s = start p in
     let a = s .args in
     let not : goes-now p ≡ false = sym (c .before .may-go .ensures) ∙ not-true _ (c .if1 .taken) in
-    let stop = go-stops (a .numbers .now) (a .pdcps .now) (a .marks .now) (s .pre .0) (s .pre .1) (M p) (a .w .base) (left p) (p .loop .i) (omega arith) not in
+    let stop = go-stops (a .numbers .now) (a .pdcps .now) (a .marks .now) (s .pre .0) (s .pre .1) (M p) (left p) (p .loop .i) (omega arith) not in
     ended p (omega (arith, p .loop .inv .2, stop))
 
 mul-highest : tie.Need-mul-highest Inv-loop μ-loop
@@ -119,7 +119,7 @@ loop-again c =
     let s = start p in
     let a = s .args in
     let yes : goes-now p ≡ true = sym (test .before .may-go .ensures) ∙ not-false _ (test .if1 .left) in
-    let more = go-more (a .numbers .now) (a .pdcps .now) (a .marks .now) (s .pre .0) (s .pre .1) (M p) (a .w .base) (left p) (p .loop .i) (omega arith) yes in
+    let more = go-more (a .numbers .now) (a .pdcps .now) (a .marks .now) (s .pre .0) (s .pre .1) (M p) (left p) (p .loop .i) (omega arith) yes in
     (omega arith, rw (add-one (p .loop .i)), omega (arith, p .loop .inv .2, more))
 
 returns-2 : tie.Need-returns-2 Inv-loop μ-loop
