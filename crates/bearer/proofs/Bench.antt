@@ -233,14 +233,15 @@ are-read =
     ∷ octets-read (0x2C ∷ 0x03 ∷ 0xFF ∷ 0xFF ∷ size-octets ++ drop 1 extension) (status-of (telling true 262143 65536 4096 []))
     ∷ []
 
--- each L has its circles: 15 bits and the short form, 18 bits and the long one; a record opposite base lies before it
+-- each L has its circles: 15 bits and the short form, 18 bits and the long one; a record and a listed number opposite base lie before it
 abbrev pub circles : List Case
 circles =
     secondary (K.openKeeper 15 0 0) (arrives 32767 32767 (done 32512) ∷ []) 32512
     ∷ secondary (K.openKeeper 15 0 0) (arrives 32768 0 (refused 18) ∷ arrives 32769 0 (refused 11) ∷ arrives 0 32768 (refused 10) ∷ []) 0
     ∷ secondary (K.openKeeper 18 0 0) (arrives 8388607 262143 (done 8388352) ∷ []) 8388352
     ∷ secondary (K.openKeeper 18 0 0) (arrives 8388608 0 (refused 18) ∷ arrives 8388609 0 (refused 11) ∷ arrives 0 262144 (refused 10) ∷ []) 0
-    ∷ secondary (done (K.freshKeeper 12 1000 1 with-records (K.newRecord 33768 0 ∷ []))) (expires (refused 17) ∷ confirms 33768 (done tt) ∷ arrives 1000 0 (refused 13) ∷ []) 1000
+    ∷ secondary (K.openKeeper 12 0 0) (arrives 0 0 (done 0) ∷ arrives 32767 0 (done 32511) ∷ expires (done 255) ∷ confirms 0 (done tt) ∷ arrives 0 0 (refused 18) ∷ arrives 1 0 (refused 11) ∷ arrives 32768 0 (refused 13) ∷ []) 32768
+    ∷ secondary (K.openKeeper 12 0 0) (arrives 32767 0 (done 32512) ∷ expires (done 255) ∷ arrives 0 0 (refused 18) ∷ arrives 1 0 (refused 11) ∷ arrives 32768 0 (refused 13) ∷ []) 32768
     ∷ master (G.openLedger 15 0 0) 16382 (done 0)
     ∷ master (G.openLedger 15 0 0) 16383 (refused 35)
     ∷ master (G.openLedger 18 0 0) 131070 (done 0)
@@ -340,7 +341,7 @@ are-read-hold : AllHold are-read
 are-read-hold = (refl, (refl, (refl, (refl, (refl, (refl, (refl, (refl, (refl, tt)))))))))
 
 circles-hold : AllHold circles
-circles-hold = ((refl, refl), ((refl, (refl, (refl, refl))), ((refl, refl), ((refl, (refl, (refl, refl))), ((refl, (refl, (refl, refl))), (refl, (refl, (refl, (refl, ((refl, refl), ((refl, refl), ((refl, refl), ((refl, refl), tt)))))))))))))
+circles-hold = ((refl, refl), ((refl, (refl, (refl, refl))), ((refl, refl), ((refl, (refl, (refl, refl))), ((refl, (refl, (refl, (refl, (refl, (refl, (refl, refl))))))), ((refl, (refl, (refl, (refl, (refl, refl))))), (refl, (refl, (refl, (refl, ((refl, refl), ((refl, refl), ((refl, refl), ((refl, refl), tt))))))))))))))
 
 stores-hold : AllHold stores
 stores-hold = ((refl, refl), ((refl, refl), ((refl, refl), ((refl, refl), ((refl, refl), (refl, (refl, ((refl, refl), ((refl, refl), tt)))))))))

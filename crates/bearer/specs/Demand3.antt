@@ -109,8 +109,8 @@ Deserved L w i = In i (confirmedThen w) × ((j : ℕ) → j < i → In j (confir
 abbrev pub FreedExactly : ℕ → World → Type 0
 FreedExactly L w = (i : ℕ) → In i (w .freed) ↔ Deserved L w i
 
--- what a copy is answered: how many became lost, if the packet is open; else, if it lies before base, that it is opposite, if it lies M/2
--- before, and that it is late, if it doesn't; and that it has a record, if it doesn't lie before base
+-- what a copy is answered, by whether its packet is open, lies before base, and lies M/2 before it: of an open packet, how many became lost; of
+-- one before base, that it is opposite, if M/2 before it, and else that it is late; of any other, that it has a record
 abbrev pub Answered : Bool → Bool → Bool → ℕ → Outcome ℕ → Type 0
 Answered true before half-before c a = a ≡ done c
 Answered false true true c a = a ≡ refused 18

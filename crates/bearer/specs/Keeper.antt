@@ -106,7 +106,7 @@ starts k = startsOf (k .runs)
 abbrev pub floor : Keeper → ℕ
 floor k = floorBehind (modulusOf (k .bits)) (k .base) (starts k) (held k)
 
--- where among the records a number belongs: in front of the last ones that all lie past it
+-- where among the records a number belongs: in front of the last ones that all lie ahead of it
 abbrev pub placeOf : Keeper → ℕ → ℕ
 placeOf k n = placeIn (modulusOf (k .bits)) (held k) n
 

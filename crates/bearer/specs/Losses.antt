@@ -1,8 +1,8 @@
--- Where numbers lie as seen from base, and what is given up: definitions on lists of numbers of a circle of M, for the
+-- How numbers lie to each other, where they lie as seen from base, and what is given up: definitions on lists of numbers of a circle of M, for the
 -- secondary's machine (Keeper.antt). Two numbers are compared by how one lies to the other (the crate circle, Sides.antt); distances are
 -- forward from base. Every definition is total.
 -- Assumes nothing.
-use mathlib.Core.Bool.{Bool, true, false}
+use mathlib.Core.Bool.{Bool, true, false, not}
 use mathlib.Core.List.{List, [], _∷_, _++_, map}
 use Prim.Native.Nat.{ℕ, zero, suc, _+_, _-_, _%_, max}
 use lib.Dec.{ltb, leb, eqb}
@@ -29,16 +29,20 @@ before M a n = isBefore (lies M a n)
 abbrev pub farBehind : ℕ → ℕ → ℕ → ℕ
 farBehind M base n = if before M base n then forward M n base else 0
 
--- what lies ahead of a number lies past it, and so does the same, where that counts
-abbrev pub isPast : Bool → Side → Bool
-isPast counts same = counts
-isPast counts ahead = true
-isPast counts behind = false
-isPast counts opposite = false
+-- a number lies ahead of another
+abbrev pub isAhead : Side → Bool
+isAhead same = false
+isAhead ahead = true
+isAhead behind = false
+isAhead opposite = false
 
--- n lies past a, or is the same, where that counts
-abbrev pub past : Bool → ℕ → ℕ → ℕ → Bool
-past counts M a n = isPast counts (lies M a n)
+-- n lies ahead of a
+abbrev pub aheadOf : ℕ → ℕ → ℕ → Bool
+aheadOf M a n = isAhead (lies M a n)
+
+-- n is a or lies ahead of it
+abbrev pub fromOn : ℕ → ℕ → ℕ → Bool
+fromOn M a n = not (before M a n)
 
 -- how many elements stand in front of the longest end of a list all of which has a property
 abbrev pub frontOf : {A : Type 0} → (A → Bool) → List A → ℕ
@@ -54,28 +58,32 @@ firstBehind M base (n ∷ ns) = farBehind M base n
 abbrev pub floorBehind : ℕ → ℕ → List ℕ → List ℕ → ℕ
 floorBehind M base ms ns = max (firstBehind M base ms) (firstBehind M base ns)
 
--- where in a list a number belongs: in front of the last ones that all lie past it
+-- where in a list a number belongs: in front of the last ones that all lie ahead of it
 abbrev pub placeIn : ℕ → List ℕ → ℕ → ℕ
-placeIn M ns n = frontOf (past false M n) ns
+placeIn M ns n = frontOf (aheadOf M n) ns
 
 -- the number in front of a place of a list is n
 abbrev pub bearsBefore : List ℕ → ℕ → ℕ → Bool
 bearsBefore ns n zero = false
 bearsBefore ns n (suc i) = eqb (getD ns i 0) n
 
--- how far the last number of a list is forward from base; 0 for none, or for one before base
+-- how far a number that doesn't lie before base is past it; 0 for one that does
+abbrev pub farPast : ℕ → ℕ → ℕ → ℕ
+farPast M base n = if before M base n then 0 else forward M base n
+
+-- how far the last number of a list is past base; 0 for none, or for one before base
 abbrev pub topOf : ℕ → ℕ → List ℕ → ℕ
 topOf M base [] = 0
-topOf M base (n ∷ []) = if before M base n then 0 else forward M base n
+topOf M base (n ∷ []) = farPast M base n
 topOf M base (n ∷ m ∷ ns) = topOf M base (m ∷ ns)
 
 -- how far numbers are forward from base
 abbrev pub offsets : ℕ → ℕ → List ℕ → List ℕ
 offsets M base ns = map (forward M base) ns
 
--- those at the end of a list that all are base or lie past it
+-- those at the end of a list that all are base or lie ahead of it
 abbrev pub fromBase : ℕ → ℕ → List ℕ → List ℕ
-fromBase M base ns = drop (frontOf (past true M base) ns) ns
+fromBase M base ns = drop (frontOf (fromOn M base) ns) ns
 
 -- how far those are forward from base
 abbrev pub aboveBase : ℕ → ℕ → List ℕ → List ℕ

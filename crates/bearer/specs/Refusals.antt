@@ -1,6 +1,7 @@
--- Document 01's table of refusals and its orders, for both ends: for each number its sentence, of the packets of an account (Account.antt) or of
--- books (LedgerMeaning.antt), in the table's own figures; for each call its numbers in order. Nothing that the machines do is used in them; what
--- stands in a frame is told in the words of the crate frame_layout.
+-- Document 01's table of refusals and its orders, as document 02's requests changed them, for both ends: for each number its sentence, of the
+-- packets of an account (Account.antt) or of books (LedgerMeaning.antt), in the table's own figures; for each call its numbers in order. Nothing
+-- that the machines do is used in them; what stands in a frame is told in the words of the crate frame_layout, and how two numbers lie to each
+-- other in those of the crate circle, where each of the four answers has its sentence (Sides.antt).
 --
 -- What a call answers by them is `Given` (the crate basics, Refusals.antt); the refusals of a frame are those of the crate frame_layout. The
 -- statements are at the end: of every state that calls reach, each call is refused with the first number whose sentence holds, and
@@ -80,8 +81,8 @@ NotToConfirm L first a base n =
 abbrev pub NoneToExpire : Fates → Type 0
 NoneToExpire r = (i : ℕ) → i < highest (r .received) → isOpen r i ≡ false
 
--- "Arrival: 9, 10, 11, 12, 13, 14, 15.", and document 02, One: "18 for an opposite arrival, after 10 and before 11, which is then given only
--- above M/2": opposite base and behind it
+-- "Arrival: 9, 10, 11, 12, 13, 14, 15.", with request One's "18 for an opposite arrival, after 10 and before 11, which is then given only above
+-- M/2": one opposite base, and one behind it
 abbrev pub arrivalRefusals : ℕ → ℕ → Account → ℕ → ℕ → ℕ → List Refusal
 arrivalRefusals L first a base n p =
     (9 when (a .final ≡ true))

@@ -1,7 +1,7 @@
 -- How one number lies to another on a circle of M. Document 02, One: "Every comparison of two X2-U numbers should answer same, ahead, behind or
 -- opposite (forward distance exactly M/2)." The laws of it are stated once over M, the way back over an even one.
 -- Assumes nothing.
-use mathlib.Core.Path.{_≡_, refl, sym, _∙_, ap}
+use mathlib.Core.Path.{_≡_, refl, _∙_, ap}
 use mathlib.Core.Bool.{Bool, true, false}
 use Prim.Native.Nat.{ℕ, _+_, _-_, _/_, _%_, _<_}
 use native.Mathlib.Omega.{arith}
@@ -46,7 +46,7 @@ side-told h d = by (eqb d 0) (ltb d h) (eqb d h) refl refl refl
     by false false true e f g = eqb-true d h g
     by false false false e f g = let apart = eqb-false d h g in let far = ltb-false d h f in omega arith
 
--- and nothing else holds: exactly one does
+-- and nothing else holds, where half the circle is some way: exactly one does
 pub told-one : (h d : ℕ) → 0 < h → (s : Side) → Told h d s → sideBy h d ≡ s
 told-one h d some same t = rw (eq-eqb d 0 t)
 told-one h d some ahead t = rw (ne-eqb d 0 (λ e. omega arith), lt-ltb d h (t .1))
@@ -63,14 +63,22 @@ turned behind = ahead
 turned opposite = opposite
 
 module _ (M : ℕ) (pos : 0 < M) where
+  -- what is answered holds of the distance from a to b
+  pub lies-told : (a b : ℕ) → Told (M / 2) (forward M a b) (lies M a b)
+  lies-told a b = side-told (M / 2) (forward M a b)
+
   -- both moved by the same distance lie as before
   pub lies-moved : (a b d : ℕ) → lies M ((a + d) % M) ((b + d) % M) ≡ lies M a b
   lies-moved a b d = ap (sideBy (M / 2)) (forward-moved M pos a b d)
 
   module _ (even : M / 2 + M / 2 ≡ M) where
+    -- and of the four that alone
+    pub lies-one : (a b : ℕ) (s : Side) → Told (M / 2) (forward M a b) s → lies M a b ≡ s
+    lies-one a b = told-one (M / 2) (forward M a b) (omega arith)
+
     -- ahead one way is behind the other; the same and opposite are their own reverse
     pub lies-back : (a b : ℕ) → lies M b a ≡ turned (lies M a b)
-    lies-back a b = told-one (M / 2) (forward M b a) (omega arith) (turned (lies M a b)) (back (lies M a b) (side-told (M / 2) (forward M a b)))
+    lies-back a b = lies-one b a (turned (lies M a b)) (back (lies M a b) (lies-told a b))
       where
         far : forward M a b < M
         far = forward-below M pos a b

@@ -65,15 +65,15 @@ pub enum Side {
 pub fn lies(from: u32, number: u32, long: bool) -> Side
     ensures { λ r. ⌜ sideIn r ≡ «liesOf» («modulusOf» long) from number ⌝ }
 {
-    let forward = distance(from, number, long);
-    let half = half(long);
-    if forward < half {
-        if forward == 0 {
+    let way = distance(from, number, long);
+    let halfway = half(long);
+    if way < halfway {
+        if way == 0 {
             return Side::Same;
         }
         return Side::Ahead;
     }
-    if forward == half {
+    if way == halfway {
         return Side::Opposite;
     }
     Side::Behind

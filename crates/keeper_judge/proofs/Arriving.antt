@@ -13,7 +13,7 @@ use Rattle.circle.specs.Lengths.{pdcps, lengthIn}
 use Rattle.basics.specs.Basics.{if_then_else_}
 use Rattle.frame_layout.specs.Frames.{Range, startsOf}
 use Rattle.bearer.specs.Bearer.{After, refusing, answering, mostRuns, mostRecords}
-use Rattle.bearer.specs.Losses.{past, bearsBefore, placeIn, floorBehind, sizeOf}
+use Rattle.bearer.specs.Losses.{aheadOf, bearsBefore, placeIn, floorBehind, sizeOf}
 use Rattle.bearer.specs.Keeper.{Keeper, Record, numbersOf, runsAfter, givenUp, limitOf, baseArrived, arrived, arriveAt, arriveOn, arriveBy, arrive}
 use Rattle.bearer.proofs.Lists.Mapped.{front-within}
 use Rattle.keeper_state.specs.declared.Words.{Words}
@@ -87,7 +87,7 @@ module _ (w : Words) (runs : List Range) (records : List Record) (ns ss : List �
           pub accepted : length ns < mostRecords → (base : ℕ) → base ≡ baseArrived (modulusIn w) (w .base) ns place d
               → AcceptsArrival place (record { base = base; lost = lost }) (stateOf w runs records) n p judged
           accepted h base e = record {
-            within = rw (place-is, held-count) (front-within (past false (modulusIn w) n) ns);
+            within = rw (place-is, held-count) (front-within (aheadOf (modulusIn w) n) ns);
             room = rw held-count h;
             loses = record { losing = rw en losing; few = few };
             outcome =

@@ -13,7 +13,7 @@ use borrow.Author.Tests.{eq-eqb, ne-eqb}
 use Rattle.circle.specs.Circle.{forward, forward-below}
 use Rattle.basics.specs.Basics.{if_then_else_, all}
 use Rattle.basics.proofs.Choices.{and-no}
-use Rattle.bearer.specs.Losses.{before, farBehind, frontOf, firstBehind, topOf}
+use Rattle.bearer.specs.Losses.{before, farBehind, farPast, frontOf, firstBehind, topOf}
 use Rattle.bearer.specs.Keeper.{indexOf}
 use Rattle.bearer.proofs.Lists.Mapped.{front-none}
 
@@ -54,7 +54,7 @@ module _ (M base : ℕ) where
   top-none (n ∷ ns) e = absurd (omega arith)
 
   pub top-last : (ns : List ℕ) (i : ℕ) → i + 1 ≡ length ns
-      → topOf M base ns ≡ (if before M base (getD ns i 0) then 0 else forward M base (getD ns i 0))
+      → topOf M base ns ≡ farPast M base (getD ns i 0)
   top-last [] i e = absurd (omega arith)
   top-last (n ∷ []) i e = let z : i ≡ 0 = omega arith in rw z
   top-last (n ∷ m ∷ ns) zero e = absurd (omega arith)

@@ -6,9 +6,10 @@ ghost use lib.ListN.{length, set};
 ghost use lib.Seq.{sets};
 ghost use Rattle.circle.specs.Lengths.{modulus as «modulusOf»};
 ghost use Rattle.frame_layout.specs.Frames.{startsOf, endsOf};
-ghost use Rattle.bearer.specs.Losses.{before, farBehind, past as «pastBy», frontOf, firstBehind, topOf, offsets, outside as «outsideOf», gap, gaps as «gapsOf», lowest as «lowestOf», runsOf};
+ghost use Rattle.bearer.specs.Losses.{before, farBehind, frontOf, firstBehind, topOf, offsets, outside as «outsideOf», gap, gaps as «gapsOf», lowest as «lowestOf», runsOf};
 ghost use Rattle.bearer.specs.Keeper.{indexOf};
 ghost use Rattle.keeper_loss.specs.Tally.{told, tallied, raisedBy, gapEnd, pastOf};
+ghost use Rattle.keeper_loss.specs.Fronts.{aheadOr};
 use circle::Side;
 
 // What is given up: how many gaps and numbers, and how far the first gap is from base (0 for none).
@@ -20,24 +21,24 @@ pub struct GivenUp {
 
 // ---- where a number lies
 
-// Whether a number lies past another: ahead of it, or the same where that counts.
-fn is_past(from: u32, number: u32, long: bool, counts: bool) -> bool
-    ensures { λ r. ⌜ r ≡ «pastBy» counts («modulusOf» long) from number ⌝ }
+// Whether a number lies ahead of another, or is the same, where that counts too.
+fn is_ahead(from: u32, number: u32, long: bool, same: bool) -> bool
+    ensures { λ r. ⌜ r ≡ aheadOr same («modulusOf» long) from number ⌝ }
 {
     let side = circle::lies(from, number, long);
     match side {
-        Side::Same => counts,
+        Side::Same => same,
         Side::Ahead => true,
         Side::Behind => false,
         Side::Opposite => false,
     }
 }
 
-// Whether a number lies before another: neither past it nor the same, so behind it or opposite.
+// Whether a number lies before another: neither ahead of it nor the same, so behind it or opposite.
 pub fn is_before(from: u32, number: u32, long: bool) -> bool
     ensures { λ r. ⌜ r ≡ before («modulusOf» long) from number ⌝ }
 {
-    !is_past(from, number, long, true)
+    !is_ahead(from, number, long, true)
 }
 
 // How far a number that lies before base is behind it; 0 for any other.
@@ -52,14 +53,14 @@ fn behind(base: u32, number: u32, long: bool) -> u32
 
 // ---- the ends of a list
 
-// How many numbers stand in front of the last ones that all lie past another, or are the same where that counts. From the back,
-// so that what stands in front of them is not looked at.
-pub fn front(numbers: &[u32], from: u32, long: bool, counts: bool) -> usize
-    ensures { λ r. ⌜ r ≡ frontOf («pastBy» counts («modulusOf» long) from) (now (numbers .entry)) ⌝ }
+// How many numbers stand in front of the last ones that all lie ahead of another, or are the same, where that counts too. From
+// the back, so that what stands in front of them is not looked at.
+pub fn front(numbers: &[u32], from: u32, long: bool, same: bool) -> usize
+    ensures { λ r. ⌜ r ≡ frontOf (aheadOr same («modulusOf» long) from) (now (numbers .entry)) ⌝ }
 {
     let mut i = numbers.len();
     while 0 < i {
-        if !is_past(from, numbers[i - 1], long, counts) {
+        if !is_ahead(from, numbers[i - 1], long, same) {
             return i;
         }
         i -= 1;

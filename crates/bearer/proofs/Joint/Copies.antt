@@ -22,7 +22,7 @@ use Rattle.bearer.specs.Demand3.{Answered, CopiesAnswered}
 use Rattle.bearer.proofs.Lists.Lengths.{roomy}
 use Rattle.bearer.proofs.Answers.Accepted.{same-answer}
 use Rattle.bearer.proofs.Secondary.Index.{Indexed, image, imageAfter, floorI, placeI, givenUpI, runsAfterI, arrivedI, arriveI}
-use Rattle.bearer.proofs.Secondary.Image.{refusedBefore, late, image-arrive}
+use Rattle.bearer.proofs.Secondary.Image.{refusedBefore, before-refused, image-arrive}
 use Rattle.bearer.proofs.Secondary.Open.{received-closed, one-lowest}
 use Rattle.bearer.proofs.Secondary.Follows.{follows-has}
 use Rattle.bearer.proofs.Secondary.FollowsArrival.{arrival-count}
@@ -50,11 +50,11 @@ module _ {L first : ℕ} (ok : isLength L ≡ true) {w : World} (j : Joint L fir
   refused-is : (n : ℕ) → refusing {A = ℕ} n (image L first a) ≡ refusing n (w .keeper)
   refused-is n = ap (refusing n) (sym (j .second .keeper-is))
 
-  -- a packet before base is late, or opposite
-  pub copy-late : (i : ℕ) → i < length (w .sent) → length (w .sent) ≤ i + half L → i < a .base → copied L first w i ≡ refusing (refusedBefore (half L) (a .base) i) (w .keeper)
-  copy-late i h k l =
+  -- a packet before base is refused: late, or opposite
+  pub copy-refused : (i : ℕ) → i < length (w .sent) → length (w .sent) ≤ i + half L → i < a .base → copied L first w i ≡ refusing (refusedBefore (half L) (a .base) i) (w .keeper)
+  copy-refused i h k l =
       let b = base-sent (j .second) in
-      copied-is i ∙ late L first a i (getD (w .sent) i 0) l (omega arith) (j .there .master .ordered .below i h) open-a ∙ refused-is (refusedBefore (half L) (a .base) i)
+      copied-is i ∙ before-refused L first a i (getD (w .sent) i 0) l (omega arith) (j .there .master .ordered .below i h) open-a ∙ refused-is (refusedBefore (half L) (a .base) i)
 
   module _ (d : ℕ) (sent-it : a .base + d < length (w .sent)) where
     -- the packet d past base, its PDCP number and its place among the records
@@ -105,7 +105,7 @@ module _ {L first : ℕ} (ok : isLength L ≡ true) {w : World} (j : Joint L fir
       before : i < a .base → Right i
       before l =
           subst (λ (b : Bool). Answered b (ltb i (a .base)) (eqb (i + half L) (a .base)) (declared i) (copied L first w i .answer)) (sym (j .second .follows .fates .lowest .none-below i l))
-          (rw (lt-ltb i (a .base) l) (refused-by (eqb (i + half L) (a .base)) (same-answer (copy-late i h k l))))
+          (rw (lt-ltb i (a .base) l) (refused-by (eqb (i + half L) (a .base)) (same-answer (copy-refused i h k l))))
 
       from : (d : ℕ) → a .base + d < length (w .sent) → Right (a .base + d)
       from d s =

@@ -2,7 +2,7 @@
 -- circle of each other each is a plain comparison of packet indexes. The laws are stated once over M and the number of packet 0.
 -- Assumes nothing.
 use mathlib.Core.Path.{_≡_, refl, sym, _∙_, ap}
-use mathlib.Core.Bool.{Bool, true, false}
+use mathlib.Core.Bool.{Bool, true, false, not}
 use Prim.Native.Nat.{ℕ, _+_, _-_, _/_, _%_, _≤_, _<_}
 use native.Mathlib.Omega.{arith}
 use native.Mathlib.Nat.{add-assoc, add-zero, mod-add-mod, mod-eq-of-lt}
@@ -12,10 +12,10 @@ use Rattle.basics.specs.Basics.{if_then_else_}
 use Rattle.basics.proofs.Choices.{contrary, eqb-alike}
 use Rattle.circle.specs.Circle as C
 use Rattle.circle.specs.Circle.{forward}
-use Rattle.circle.specs.Sides.{Side, same, ahead, behind, opposite, sideBy, lies, Told, side-told, told-one}
+use Rattle.circle.specs.Sides.{Side, same, ahead, behind, opposite, lies, Told, side-told, told-one}
 use Rattle.circle.specs.Lengths.{modulusOf, half, isLong}
 use Rattle.circle.proofs.Forms.{modulus-bounds, halves}
-use Rattle.bearer.specs.Losses.{isBefore, before, isPast, past, farBehind}
+use Rattle.bearer.specs.Losses.{isBefore, before, isAhead, aheadOf, fromOn, farBehind, farPast}
 
 -- ---- the two circles
 
@@ -29,16 +29,16 @@ positive L = modulus-bounds (isLong L) .0
 -- ---- how numbers and packets lie to each other
 
 -- a number that doesn't lie before another is less than half the circle forward from it
-pub not-before : (h d : ℕ) → 0 < h → isBefore (sideBy h d) ≡ false → d < h
-not-before h d some = by (sideBy h d) (side-told h d)
+pub not-before : (L a n : ℕ) → before (modulusOf L) a n ≡ false → forward (modulusOf L) a n < half L
+not-before L a n = by (lies (modulusOf L) a n) (side-told (half L) (forward (modulusOf L) a n))
   where
-    by : (s : Side) → Told h d s → isBefore s ≡ false → d < h
-    by same t e = omega arith
+    by : (s : Side) → Told (half L) (forward (modulusOf L) a n) s → isBefore s ≡ false → forward (modulusOf L) a n < half L
+    by same t e = omega (arith, positive L, whole L)
     by ahead t e = t .1
     by behind t e = absurd (contrary refl e)
     by opposite t e = absurd (contrary refl e)
 
--- how packet j lies to packet i, from h before it up to h past it
+-- how packet j lies to packet i, from h before it up to, and without, h past it
 abbrev pub sideI : ℕ → ℕ → ℕ → Side
 sideI h i j = if ltb j i then (if eqb (j + h) i then opposite else behind) else if eqb i j then same else ahead
 
@@ -122,20 +122,23 @@ module _ (M first : ℕ) (pos : 0 < M) where
         by false o true = refl
         by false o false = refl
 
-    -- and past it is past it, it itself being so or not
-    pub past-is : (counts : Bool) → past counts M (on M first i) (on M first j) ≡ (if counts then leb i j else ltb i j)
-    past-is counts = ap (isPast counts) lies-is ∙ by counts (ltb j i) (eqb i j) refl refl (eqb (j + M / 2) i)
+    -- ahead of it is past it
+    pub ahead-is : aheadOf M (on M first i) (on M first j) ≡ ltb i j
+    ahead-is = ap isAhead lies-is ∙ by (ltb j i) (eqb i j) refl refl (eqb (j + M / 2) i)
       where
-        by : (c t s : Bool) → ltb j i ≡ t → eqb i j ≡ s → (o : Bool)
-            → isPast c (if t then (if o then opposite else behind) else if s then same else ahead) ≡ (if c then leb i j else ltb i j)
-        by true true s e f true = sym (lt-leb i j (ltb-true j i e))
-        by true true s e f false = sym (lt-leb i j (ltb-true j i e))
-        by true false true e f o = sym (le-leb i j (ltb-false j i e))
-        by true false false e f o = sym (le-leb i j (ltb-false j i e))
-        by false true s e f true = sym (le-ltb i j (omega (arith, ltb-true j i e)))
-        by false true s e f false = sym (le-ltb i j (omega (arith, ltb-true j i e)))
-        by false false true e f o = sym (le-ltb i j (omega (arith, eqb-true i j f)))
-        by false false false e f o = let apart = eqb-false i j f in sym (lt-ltb i j (omega (arith, ltb-false j i e)))
+        by : (t s : Bool) → ltb j i ≡ t → eqb i j ≡ s → (o : Bool) → isAhead (if t then (if o then opposite else behind) else if s then same else ahead) ≡ ltb i j
+        by true s e f true = sym (le-ltb i j (omega (arith, ltb-true j i e)))
+        by true s e f false = sym (le-ltb i j (omega (arith, ltb-true j i e)))
+        by false true e f o = sym (le-ltb i j (omega (arith, eqb-true i j f)))
+        by false false e f o = let apart = eqb-false i j f in sym (lt-ltb i j (omega (arith, ltb-false j i e)))
+
+    -- and from it on is from it on
+    pub from-is : fromOn M (on M first i) (on M first j) ≡ leb i j
+    from-is = ap not before-is ∙ by (ltb j i) refl
+      where
+        by : (t : Bool) → ltb j i ≡ t → not t ≡ leb i j
+        by true e = sym (lt-leb i j (ltb-true j i e))
+        by false e = sym (le-leb i j (ltb-false j i e))
 
     -- how far behind it
     pub behind-is : farBehind M (on M first i) (on M first j) ≡ i - j
@@ -146,7 +149,7 @@ module _ (M first : ℕ) (pos : 0 < M) where
         by false e = omega (arith, ltb-false j i e)
 
     -- how far past it
-    pub beyond-is : (if before M (on M first i) (on M first j) then 0 else forward M (on M first i) (on M first j)) ≡ j - i
+    pub beyond-is : farPast M (on M first i) (on M first j) ≡ j - i
     beyond-is = rw before-is (by (ltb j i) refl)
       where
         by : (b : Bool) → ltb j i ≡ b → (if b then 0 else forward M (on M first i) (on M first j)) ≡ j - i

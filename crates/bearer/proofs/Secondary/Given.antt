@@ -6,7 +6,6 @@ use mathlib.Core.Bool.{Bool, true, false, not}
 use mathlib.Core.List.{List, [], _∷_}
 use mathlib.Core.Logic.{inl, inr}
 use Prim.Native.Nat.{ℕ, _+_, _<_}
-use native.Mathlib.Omega.{arith}
 use borrow.Author.Tests.{ltb-true, leb-false, eqb-false, not-false}
 use lib.Dec.{ltb, leb, eqb}
 use lib.ListN.{length, drop, length-map}
@@ -14,7 +13,7 @@ use Rattle.basics.specs.Basics.{Outcome, if_then_else_, _and_, done, refused}
 use Rattle.basics.specs.Refusals.{Refusal, _when_, Given}
 use Rattle.basics.proofs.Choices.{contrary, and-true}
 use Rattle.basics.proofs.Refusals.{Says, says-below, says-at-most, says-holds, says-and, says-past, given-of, given-by}
-use Rattle.circle.specs.Sides.{Side, same, ahead, behind, opposite, turned}
+use Rattle.circle.specs.Sides.{Side, same, ahead, behind, opposite}
 use Rattle.circle.specs.Lengths.{isLength, modulusOf, half, pdcps}
 use Rattle.frame_layout.specs.Frames.{Written, mostRanges, statusOctets, place, writeStatus}
 use Rattle.bearer.specs.Bearer.{After, mostRuns, mostRecords}
@@ -22,11 +21,11 @@ use Rattle.bearer.specs.Losses.{isBefore}
 use Rattle.bearer.specs.Keeper as K
 use Rattle.bearer.specs.Keeper.{limitOf}
 use Rattle.bearer.specs.Rule.{arrival, expiry}
-use Rattle.bearer.specs.Packets.{forwardFrom, liesFrom}
+use Rattle.bearer.specs.Packets.{forwardFrom, numberOf, liesFrom}
 use Rattle.bearer.specs.Account.{Account, runAt, listed, statusOf}
 use Rattle.bearer.specs.KeeperMeaning.{Reached, packetAt}
 use Rattle.bearer.specs.Refusals.{openRefusals, arrivalRefusals, expiryRefusals, confirmRefusals, statusRefusals, OpensGiven, CallsGiven, SecondaryGiven}
-use Rattle.bearer.proofs.Lists.Numbers.{whole, positive, not-before, lands}
+use Rattle.bearer.proofs.Lists.Numbers.{positive, not-before, lands}
 use Rattle.bearer.proofs.Answers.Given.{says-length, says-number, call-by, one-test}
 use Rattle.bearer.proofs.Secondary.Index.{Indexed, image, imageAfter, floorI, placeI, hasI, runsAfterI, arriveI}
 use Rattle.bearer.proofs.Secondary.Image.{image-arrive-on, image-expire-below}
@@ -52,11 +51,18 @@ opens-given L first f = (open-given L first f _, open-given L first f _)
 
 -- ---- an arrival by how it lies to base: 18, 11
 
+-- opposite is none of the others
+abbrev isOpposite : Side → Bool
+isOpposite same = false
+isOpposite ahead = false
+isOpposite behind = false
+isOpposite opposite = true
+
 side-given : (k : K.Keeper) (n p : ℕ) (rs : List Refusal) (s : Side) → (isBefore s ≡ false → Given rs (K.arriveOn k n p .answer))
     → Given ((18 when (s ≡ opposite)) ∷ (11 when (s ≡ behind)) ∷ rs) (K.arriveBy k n p s .answer)
-side-given k n p rs same on = inr ((λ e. contrary (ap isBefore e) refl), inr ((λ e. contrary (ap isBefore e) refl), on refl))
-side-given k n p rs ahead on = inr ((λ e. contrary (ap isBefore e) refl), inr ((λ e. contrary (ap isBefore e) refl), on refl))
-side-given k n p rs behind on = inr ((λ e. contrary (ap (λ (s : Side). isBefore (turned s)) e) refl), inl (refl, refl))
+side-given k n p rs same on = inr ((λ e. contrary (ap isOpposite e) refl), inr ((λ e. contrary (ap isBefore e) refl), on refl))
+side-given k n p rs ahead on = inr ((λ e. contrary (ap isOpposite e) refl), inr ((λ e. contrary (ap isBefore e) refl), on refl))
+side-given k n p rs behind on = inr ((λ e. contrary (ap isOpposite e) refl), inl (refl, refl))
 side-given k n p rs opposite on = inl (refl, refl)
 
 -- ---- the calls on a state that follows its account
@@ -87,7 +93,7 @@ module _ (L first : ℕ) {base : ℕ} {a : Account} (F : Follows (half L) (index
       let rs = arrivalRefusals L first a base n p in
       call-by (a .final) 9 (drop 1 rs) k _ (says-holds refl)
       (λ _. call-by (not (ltb n (modulusOf L) and ltb p (pdcps L))) 10 (drop 2 rs) k _ (says-number L n p)
-      (λ numbers. side-given k n p (drop 4 rs) (liesFrom L first base n) (λ on. by numbers (not-before (half L) (forwardFrom L first base n) (omega (arith, positive L, whole L)) on))))
+      (λ numbers. side-given k n p (drop 4 rs) (liesFrom L first base n) (λ on. by numbers (not-before L (numberOf L first base) n on))))
     where
       d : ℕ
       d = forwardFrom L first base n

@@ -62,9 +62,9 @@ module _ (L first : ℕ) (a : Indexed) where
       rw (not-closed, lt-ltb (numberOf L first i) (modulusOf L) (mod-lt (first + i) (positive L)), lt-ltb pdcp (pdcps L) fits)
 
   -- the arrival of a packet before base
-  pub late : (i pdcp : ℕ) → i < a .base → a .base ≤ i + half L → pdcp < pdcps L → a .closed ≡ false
+  pub before-refused : (i pdcp : ℕ) → i < a .base → a .base ≤ i + half L → pdcp < pdcps L → a .closed ≡ false
       → K.arrive (image L first a) (numberOf L first i) pdcp ≡ refusing (refusedBefore (half L) (a .base) i) (image L first a)
-  late i pdcp before near fits not-closed =
+  before-refused i pdcp before near fits not-closed =
       not-refused-10 i pdcp fits not-closed
       ∙ ap (K.arriveBy (image L first a) (numberOf L first i) pdcp)
       (lies-is (modulusOf L) first (positive L) (whole L) (a .base) i near (omega arith) ∙ chosen _ _ (lt-ltb i (a .base) before))
@@ -100,24 +100,26 @@ module _ (L first : ℕ) (a : Indexed) (reach : InReach L a) where
       within = rw length-map at (front-within (ltb (a .base + d)) (indexes (a .records)))
 
   -- ... at its own place: where that isn't the one of its index, the arrival is refused in any case
-  image-arrive-at : (d pdcp : ℕ) → d < half L
-      → K.arriveAt (image L first a) (numberOf L first (a .base + d)) pdcp (K.placeOf (image L first a) (numberOf L first (a .base + d))) d
-      ≡ imageAfter L first (arriveI (half L) a pdcp (placeI a (a .base + d)) d)
-  image-arrive-at d pdcp h = ⊎-elim too-long fits (tested (leb (half L) (floorI a + d)))
-    where
-      too-long : leb (half L) (floorI a + d) ≡ true
-          → K.arriveAt (image L first a) (numberOf L first (a .base + d)) pdcp (K.placeOf (image L first a) (numberOf L first (a .base + d))) d
-          ≡ imageAfter L first (arriveI (half L) a pdcp (placeI a (a .base + d)) d)
-      too-long e =
-          choice (imageAfter L first) (has-at-place L first a reach d h) refl
-          (chosen _ _ (ap (λ (f : ℕ). leb (half L) (f + d)) (floor-is L first a reach) ∙ e) ∙ sym (ap (imageAfter L first) (chosen _ _ e)))
+  module _ (d pdcp : ℕ) (h : d < half L) where
+    -- the packet's number, and the call at that number's place
+    abbrev number : ℕ
+    number = numberOf L first (a .base + d)
 
-      fits : leb (half L) (floorI a + d) ≡ false
-          → K.arriveAt (image L first a) (numberOf L first (a .base + d)) pdcp (K.placeOf (image L first a) (numberOf L first (a .base + d))) d
-          ≡ imageAfter L first (arriveI (half L) a pdcp (placeI a (a .base + d)) d)
-      fits e =
-          ap (λ (p : ℕ). K.arriveAt (image L first a) (numberOf L first (a .base + d)) pdcp p d) (place-is L first a reach d (leb-false (half L) (floorI a + d) e))
-          ∙ arrive-at-is pdcp d h
+    abbrev AtPlace : Type 0
+    AtPlace = K.arriveAt (image L first a) number pdcp (K.placeOf (image L first a) number) d ≡ imageAfter L first (arriveI (half L) a pdcp (placeI a (a .base + d)) d)
+
+    too-long : leb (half L) (floorI a + d) ≡ true → AtPlace
+    too-long e =
+        choice (imageAfter L first) (has-at-place L first a reach d h) refl
+        (chosen _ _ (ap (λ (f : ℕ). leb (half L) (f + d)) (floor-is L first a reach) ∙ e) ∙ sym (ap (imageAfter L first) (chosen _ _ e)))
+
+    in-span : leb (half L) (floorI a + d) ≡ false → AtPlace
+    in-span e =
+        ap (λ (p : ℕ). K.arriveAt (image L first a) number pdcp p d) (place-is L first a reach d (leb-false (half L) (floorI a + d) e))
+        ∙ arrive-at-is pdcp d h
+
+    image-arrive-at : AtPlace
+    image-arrive-at = ⊎-elim too-long in-span (tested (leb (half L) (floorI a + d)))
 
   -- ... and by its distance
   pub image-arrive-on : (d pdcp : ℕ) → d < half L

@@ -16,7 +16,7 @@ use Rattle.circle.specs.Circle.{forward}
 use Rattle.circle.specs.Lengths.{modulusOf, half}
 use Rattle.frame_layout.specs.Frames.{Range}
 use Rattle.bearer.specs.Bearer.{window, mostRuns}
-use Rattle.bearer.specs.Losses.{Gap, firstBehind, past, frontOf, topOf, offsets, fromBase, gaps, lowest, runOf, joined, withRuns}
+use Rattle.bearer.specs.Losses.{Gap, firstBehind, aheadOf, fromOn, frontOf, topOf, offsets, fromBase, gaps, lowest, runOf, joined, withRuns}
 use Rattle.bearer.specs.Keeper as K
 use Rattle.bearer.specs.Keeper.{limitOf}
 use Rattle.bearer.specs.Packets.{numberOf, Rising, Each}
@@ -24,7 +24,7 @@ use Rattle.bearer.specs.Account.{Held, runAt, indexes}
 use Rattle.bearer.specs.KeeperMeaning.{recordAt}
 use Rattle.bearer.proofs.Lists.Mapped.{each-so, each-both, each-drop, each-at, each-map, each-behind, front-within, map-alike, front-alike, Below, gaps-below}
 use Rattle.bearer.proofs.Lists.Elements.{each-there, there-each, rising-head, endsIn, ends-in, ends-past}
-use Rattle.bearer.proofs.Lists.Numbers.{whole, positive, onward-is, to-later, same-packet, same-number, past-is, behind-is, beyond-is}
+use Rattle.bearer.proofs.Lists.Numbers.{whole, positive, onward-is, to-later, same-packet, same-number, ahead-is, from-is, behind-is, beyond-is}
 use Rattle.bearer.proofs.Secondary.Index.{Indexed, image, firstBack, froms, floorI, placeI, hasI, pastBase, aboveI, givenUpI, gapAt, joinedI, withRunsI, runsAfterI, baseAfterI, arrivedBaseI, topI}
 
 -- All packets of a state lie within half the circle of base: none further behind, no record as far ahead. Records are in sending order. Runs
@@ -78,12 +78,17 @@ module _ (L first base : ℕ) where
   top-of-is (j ∷ []) near = beyond-is (modulusOf L) first (positive L) (whole L) base j (near .0 .0) (near .0 .1)
   top-of-is (j ∷ i ∷ is) near = top-of-is (i ∷ is) (near .1)
 
-  -- where the last packets begin that all lie past base, base itself counting or not
-  front-is : (counts : Bool) (js : List ℕ) → Each (Near (half L) base) js
-      → frontOf (past counts (modulusOf L) (numberOf L first base)) (map (numberOf L first) js) ≡ frontOf (λ (j : ℕ). if counts then leb base j else ltb base j) js
-  front-is counts js near =
-      front-alike (numberOf L first) (past counts (modulusOf L) (numberOf L first base)) (λ (j : ℕ). if counts then leb base j else ltb base j) js
-      (each-so js (λ j n. past-is (modulusOf L) first (positive L) (whole L) base j (n .0) (n .1) counts) near)
+  -- where the last packets begin that all lie ahead of base
+  front-ahead : (js : List ℕ) → Each (Near (half L) base) js → frontOf (aheadOf (modulusOf L) (numberOf L first base)) (map (numberOf L first) js) ≡ frontOf (ltb base) js
+  front-ahead js near =
+      front-alike (numberOf L first) (aheadOf (modulusOf L) (numberOf L first base)) (ltb base) js
+      (each-so js (λ j n. ahead-is (modulusOf L) first (positive L) (whole L) base j (n .0) (n .1)) near)
+
+  -- ... or are base
+  front-from : (js : List ℕ) → Each (Near (half L) base) js → frontOf (fromOn (modulusOf L) (numberOf L first base)) (map (numberOf L first) js) ≡ frontOf (leb base) js
+  front-from js near =
+      front-alike (numberOf L first) (fromOn (modulusOf L) (numberOf L first base)) (leb base) js
+      (each-so js (λ j n. from-is (modulusOf L) first (positive L) (whole L) base j (n .0) (n .1)) near)
 
   -- the distances of the last packets, all at or past base
   offsets-are : (m : ℕ) → base ≤ m → (js : List ℕ) → Each (Near (half L) base) js
@@ -166,8 +171,8 @@ module _ (L first : ℕ) (a : Indexed) (reach : InReach L a) where
   -- where no packet is half the circle behind the packet d past base, its place is that of its index
   pub place-is : (d : ℕ) → floorI a + d < half L → K.placeOf (image L first a) (numberOf L first (a .base + d)) ≡ placeI a (a .base + d)
   place-is d fits =
-      ap (frontOf (past false (modulusOf L) (numberOf L first (a .base + d)))) (held-are L first (a .records))
-      ∙ front-is L first (a .base + d) false (indexes (a .records)) near-it
+      ap (frontOf (aheadOf (modulusOf L) (numberOf L first (a .base + d)))) (held-are L first (a .records))
+      ∙ front-ahead L first (a .base + d) (indexes (a .records)) near-it
     where
       back : ℕ
       back = firstBack (a .base) (indexes (a .records))
@@ -181,7 +186,7 @@ module _ (L first : ℕ) (a : Indexed) (reach : InReach L a) where
   above-is =
       ap (λ (ns : List ℕ). offsets (modulusOf L) (numberOf L first (a .base)) (fromBase (modulusOf L) (numberOf L first (a .base)) ns)) (held-are L first (a .records))
       ∙ ap (λ (k : ℕ). offsets (modulusOf L) (numberOf L first (a .base)) (drop k (map (numberOf L first) (indexes (a .records)))))
-      (front-is L first (a .base) true (indexes (a .records)) near-records)
+      (front-from L first (a .base) (indexes (a .records)) near-records)
       ∙ offsets-are L first (a .base) (a .base) (omega arith) (indexes (a .records)) near-records
 
   pub given-up-is : (l : ℕ) → K.givenUp (image L first a) l ≡ givenUpI a l
@@ -213,8 +218,8 @@ module _ (L first : ℕ) (a : Indexed) (reach : InReach L a) where
   has-at-place d h =
       has-is d (K.placeOf (image L first a) n) h within
       ∙ ap (endsIn js i) place-found
-      ∙ ends-in is-past js i (reach .rising) (past-packet i (omega arith, omega arith) ∙ le-ltb i i (omega arith))
-      (λ j t l. past-packet j (let near = each-there (Near (half L) (a .base)) js near-records j t in (omega arith, omega arith)) ∙ lt-ltb i j l)
+      ∙ ends-in is-ahead js i (reach .rising) (ahead-packet i (omega arith, omega arith) ∙ le-ltb i i (omega arith))
+      (λ j t l. ahead-packet j (let near = each-there (Near (half L) (a .base)) js near-records j t in (omega arith, omega arith)) ∙ lt-ltb i j l)
       ∙ sym (ends-past js i (reach .rising))
     where
       i : ℕ
@@ -226,20 +231,20 @@ module _ (L first : ℕ) (a : Indexed) (reach : InReach L a) where
       n : ℕ
       n = numberOf L first i
 
-      -- a packet's number lies past it
-      is-past : ℕ → Bool
-      is-past j = past false (modulusOf L) n (numberOf L first j)
+      -- a packet's number lies ahead of it
+      is-ahead : ℕ → Bool
+      is-ahead j = aheadOf (modulusOf L) n (numberOf L first j)
 
-      past-packet : (j : ℕ) → Near (half L) i j → is-past j ≡ ltb i j
-      past-packet j near = past-is (modulusOf L) first (positive L) (whole L) i j (near .0) (near .1) false
+      ahead-packet : (j : ℕ) → Near (half L) i j → is-ahead j ≡ ltb i j
+      ahead-packet j near = ahead-is (modulusOf L) first (positive L) (whole L) i j (near .0) (near .1)
 
-      place-found : K.placeOf (image L first a) n ≡ frontOf is-past js
+      place-found : K.placeOf (image L first a) n ≡ frontOf is-ahead js
       place-found =
-          ap (frontOf (past false (modulusOf L) n)) (held-are L first (a .records))
-          ∙ front-alike (numberOf L first) (past false (modulusOf L) n) is-past js (there-each (λ (j : ℕ). is-past j ≡ is-past j) js (λ j t. refl))
+          ap (frontOf (aheadOf (modulusOf L) n)) (held-are L first (a .records))
+          ∙ front-alike (numberOf L first) (aheadOf (modulusOf L) n) is-ahead js (there-each (λ (j : ℕ). is-ahead j ≡ is-ahead j) js (λ j t. refl))
 
       within : K.placeOf (image L first a) n ≤ length (a .records)
-      within = omega (arith, place-found, front-within is-past js, length-map (a .records) (λ (x : Held). x .index))
+      within = omega (arith, place-found, front-within is-ahead js, length-map (a .records) (λ (x : Held). x .index))
 
   pub many-runs-are : (l : ℕ) → l ≤ half L → ltb mostRuns (length (K.runsAfter (image L first a) l)) ≡ ltb mostRuns (length (runsAfterI a l))
   many-runs-are l h =

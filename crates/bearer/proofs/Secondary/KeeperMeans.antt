@@ -5,7 +5,6 @@ use mathlib.Core.Path.{_≡_, refl, sym, _∙_, ap, subst}
 use mathlib.Core.Bool.{Bool, false, not}
 use mathlib.Core.List.{List, _++_}
 use Prim.Native.Nat.{ℕ, _+_, _<_}
-use native.Mathlib.Omega.{arith}
 use borrow.Author.Tests.{ltb-true, not-false}
 use lib.Dec.{ltb}
 use lib.ListN.{length, getD, drop}
@@ -22,7 +21,7 @@ use Rattle.bearer.specs.Account.{Held, Account, begun, indexes, arriving
 use Rattle.bearer.specs.KeeperMeaning.{packetAt, Reached, opened as opens, arrived, expired, confirmed, reported, Means, KeeperMeans, ArrivalsCount, ExpiriesCount, StatusesSay}
 use Rattle.bearer.proofs.Lists.Mapped.{each-at}
 use Rattle.bearer.proofs.Lists.Elements.{each-in}
-use Rattle.bearer.proofs.Lists.Numbers.{whole, positive, not-before, lands}
+use Rattle.bearer.proofs.Lists.Numbers.{positive, not-before, lands}
 use Rattle.bearer.proofs.Answers.Accepted.{same-answer, same-state, not-refused, opened}
 use Rattle.bearer.proofs.Answers.Reported.{reports, reported-state, reported-frame}
 use Rattle.bearer.proofs.Secondary.Open.{one-lowest}
@@ -71,11 +70,10 @@ arrives L first a n p c e =
     let on = went-on k n p c (lies (modulusOf L) (numberOf L first (a .base)) n) (bad .1) in
     let good = and-true (ltb n (modulusOf L)) (ltb p (pdcps L)) (not-false (ltb n (modulusOf L) and ltb p (pdcps L)) (bad .0)) in
     let small : n < modulusOf L = ltb-true n (modulusOf L) (good .0) in
-    let d = forward (modulusOf L) (numberOf L first (a .base)) n in
     record {
       open-end = shut .0;
       number-is = sym (lands (modulusOf L) first (positive L) (a .base) n small);
-      near = not-before (half L) d (omega (arith, positive L, whole L)) on;
+      near = not-before L (numberOf L first (a .base)) n on;
       fits = ltb-true p (pdcps L) (good .1);
     }
 

@@ -10,7 +10,7 @@ use Rattle.circle.specs.Circle.{forward}
 use Rattle.circle.proofs.Forms.{modulus-bounds, distance-below}
 use Rattle.circle.specs.Lengths.{modulus}
 use Rattle.frame_layout.specs.Frames.{Range, rangesOf, endsOf}
-use Rattle.bearer.specs.Losses.{past, placeIn, bearsBefore, floorBehind}
+use Rattle.bearer.specs.Losses.{aheadOf, placeIn, bearsBefore, floorBehind}
 use Rattle.bearer.specs.Keeper.{limitOf, baseArrived}
 use Rattle.keeper_loss.proofs.Ends.{first-below}
 use Rattle.bearer.proofs.Lists.Mapped.{front-within}
@@ -47,7 +47,7 @@ place-is c =
 place-within : (c : tie.After-front) → c .front .result ≤ length (start c .args .numbers .now)
 place-within c =
     let a = start c .args in
-    omega (arith, place-is c, front-within (past false (modulusIn (a .w)) (a .number)) (a .numbers .now))
+    omega (arith, place-is c, front-within (aheadOf (modulusIn (a .w)) (a .number)) (a .numbers .now))
 
 -- the number is not held
 new : (c : tie.After-floor) → let a = start (fronted c) .args in bearsBefore (a .numbers .now) (a .number) (fronted c .front .result) ≡ false

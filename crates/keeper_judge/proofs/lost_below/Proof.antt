@@ -1,6 +1,5 @@
 -- `lost_below`: the gaps below the limit are counted once, and are the runs that would be listed. Assumes nothing.
 use mathlib.Core.Path.{_≡_, refl, sym, _∙_, ap, ap₂}
-use mathlib.Core.Bool.{true}
 use mathlib.Core.List.{List, []}
 use Prim.Native.Nat.{ℕ, _+_, _^_, _≤_, _<_}
 use native.Mathlib.Omega.{arith}
@@ -9,7 +8,7 @@ use lib.ListN.{length-map, length-drop, length, drop}
 use Rattle.circle.specs.Circle.{forward}
 use Rattle.circle.specs.Lengths.{modulus}
 use Rattle.frame_layout.specs.Frames.{Range, endsOf}
-use Rattle.bearer.specs.Losses.{past, frontOf, fromBase, aboveBase, lostBelow, gaps}
+use Rattle.bearer.specs.Losses.{fromOn, frontOf, fromBase, aboveBase, lostBelow, gaps}
 use Rattle.keeper_loss.specs.declared.GivenUp.{GivenUp}
 use Rattle.keeper_loss.specs.Tally.{told}
 use Rattle.bearer.proofs.Lists.Mapped.{front-within}
@@ -42,7 +41,7 @@ M c = modulus (c .args .long)
 from-within : (c : tie.After-front) → c .front .result ≤ length (start c .args .numbers .now)
 from-within c =
     let a = start c .args in
-    omega (arith, c .front .ensures, front-within (past true (M (start c)) (a .base)) (a .numbers .now))
+    omega (arith, c .front .ensures, front-within (fromOn (M (start c)) (a .base)) (a .numbers .now))
 
 -- the numbers from there on are those
 from-is : (c : tie.After-front) → let a = start c .args in drop (c .front .result) (a .numbers .now) ≡ fromBase (M (start c)) (a .base) (a .numbers .now)
@@ -65,7 +64,7 @@ count-fits c =
       ap (λ (g : GivenUp). g .gaps) (tells c),
       gaps-count 0 (a .limit) (aboveBase (M s) (a .base) (a .numbers .now)),
       length-map from (forward (M s) (a .base)),
-      length-drop (frontOf (past true (M s) (a .base)) (a .numbers .now)) (a .numbers .now),
+      length-drop (frontOf (fromOn (M s) (a .base)) (a .numbers .now)) (a .numbers .now),
       s .good,
     )
 
