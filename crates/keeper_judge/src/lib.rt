@@ -123,11 +123,12 @@ fn judge_number(
     }
     let side = circle::lies(w.base, number, long);
     match side {
-        Side::Opposite => Arrival::Refused(refusal::OPPOSITE),
-        Side::Behind => Arrival::Refused(refusal::LATE),
-        Side::Same => judge_place(w, numbers, starts, ends, number),
-        Side::Ahead => judge_place(w, numbers, starts, ends, number),
+        Side::Opposite => return Arrival::Refused(refusal::OPPOSITE),
+        Side::Behind => return Arrival::Refused(refusal::LATE),
+        Side::Same => {}
+        Side::Ahead => {}
     }
+    judge_place(w, numbers, starts, ends, number)
 }
 
 // An arrival that doesn't lie before base, by its place among the numbers held: 12, 13, 14, 15, or what it changes.

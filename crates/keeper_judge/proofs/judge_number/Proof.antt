@@ -1,7 +1,8 @@
 -- `judge_number`: the tests are the machine's, in its order, and then its place. Assumes nothing.
-use mathlib.Core.Path.{_≡_, refl, sym, _∙_, ap, subst}
+use mathlib.Core.Path.{_≡_, sym, _∙_, ap, subst}
 use mathlib.Core.Bool.{Bool, true}
 use mathlib.Core.List.{List}
+use mathlib.Core.Logic.{⊎-elim}
 use Prim.Native.Nat.{_<_}
 use native.Mathlib.Omega.{arith}
 use borrow.Author.Needs.{needs}
@@ -13,8 +14,7 @@ use Rattle.circle.specs.Lengths.{modulus, pdcps, lengthIn}
 use Rattle.frame_layout.specs.Frames.{Range}
 use Rattle.bearer.specs.Keeper.{Record, arriveOn, arriveBy, arrive}
 use Rattle.keeper_state.specs.State.{isOpen, modulusIn, stateOf}
-use Rattle.keeper_judge.specs.declared.Arrival.{Arrival}
-use Rattle.keeper_judge.specs.Judgements.{ArrivalIs, JudgesArrival, JudgesPlace}
+use Rattle.keeper_judge.specs.Judgements.{ArrivalIs}
 use Rattle.keeper_judge.proofs.Arriving.{closed-arrival, bad-number, bad-pdcp, by-side}
 use Rattle.keeper_judge.proofs.judge_number.Statement.{statement}
 use Rattle.keeper_judge.proofs.judge_number.Tie as tie
@@ -101,41 +101,29 @@ enum-told-3 c = search needs
 enum-told-4 : tie.Need-enum-told-4
 enum-told-4 c = search needs
 
-judge-place-requires : tie.Need-judge-place-requires
-judge-place-requires c κs = search needs
-
-judge-place-requires-2 : tie.Need-judge-place-requires-2
-judge-place-requires-2 c κs = search needs
-
 returns-4 : tie.Need-returns-4
 returns-4 c = λ runs records seen starts ends. by-answer (c .before .before) S.the-variants.Opposite (c .enum-told .given .1) runs records
 
 returns-5 : tie.Need-returns-5
 returns-5 c = λ runs records seen starts ends. by-answer (c .before .before) S.the-variants.Behind (c .enum-told2 .given .1) runs records
 
--- one that goes on is judged by its place
-goes-on : (c : tie.After-lies) (s : S.Side) → c .lies .result ≡ s → (r : Arrival)
-    → ((runs : List Range) (records : List Record)
-    → let a = start (formed c) .args in
-    arriveBy (stateOf (a .w) runs records) (a .number) (a .pdcp) (sideIn s) ≡ arriveOn (stateOf (a .w) runs records) (a .number) (a .pdcp)
-    → JudgesPlace r (stateOf (a .w) runs records) (a .number) (a .pdcp) → JudgesArrival r (stateOf (a .w) runs records) (a .number) (a .pdcp))
-goes-on c s e r runs records on place =
-    let a = start (formed c) .args in
-    subst (ArrivalIs r (stateOf (a .w) runs records) (a .number) (a .pdcp)) (sym (by-answer c s e runs records ∙ on)) place
+judge-place-requires : tie.Need-judge-place-requires
+judge-place-requires c κs = search needs
+
+-- one that doesn't lie before base goes on
+goes-on : (c : tie.After-judge-place) (runs : List Range) (records : List Record)
+    → let a = start (formed (c .before .before)) .args in arrive (stateOf (a .w) runs records) (a .number) (a .pdcp) ≡ arriveOn (stateOf (a .w) runs records) (a .number) (a .pdcp)
+goes-on c runs records =
+    let k = c .before .before in
+    ⊎-elim (λ same. by-answer k S.the-variants.Same (same .1 .given .1) runs records)
+    (λ ahead. by-answer k S.the-variants.Ahead (ahead .1 .given .1) runs records) (c .before .match .came)
 
 returns-6 : tie.Need-returns-6
 returns-6 c =
-    let k = c .before .before .before in
+    let a = start (formed (c .before .before)) .args in
     λ runs records seen starts ends.
-    goes-on k S.the-variants.Same (c .before .enum-told3 .given .1) (c .judge-place .result) runs records refl
-    (c .judge-place .ensures runs records seen starts ends (start (formed k) .args .pdcp))
-
-returns-7 : tie.Need-returns-7
-returns-7 c =
-    let k = c .before .before .before in
-    λ runs records seen starts ends.
-    goes-on k S.the-variants.Ahead (c .before .enum-told4 .given .1) (c .judge-place2 .result) runs records refl
-    (c .judge-place2 .ensures runs records seen starts ends (start (formed k) .args .pdcp))
+    subst (ArrivalIs (c .judge-place .result) (stateOf (a .w) runs records) (a .number) (a .pdcp)) (sym (goes-on c runs records))
+    (c .judge-place .ensures runs records seen starts ends (a .pdcp))
 
 pub judge-number-spec : {M : Type 1} → statement M
 judge-number-spec =
@@ -150,12 +138,10 @@ judge-number-spec =
     returns-3
     lies-requires
     enum-told
-    enum-told-2
-    enum-told-3
-    judge-place-requires
-    enum-told-4
-    judge-place-requires-2
     returns-4
+    enum-told-2
     returns-5
-    returns-6
-    returns-7)
+    enum-told-3
+    enum-told-4
+    judge-place-requires
+    returns-6)
