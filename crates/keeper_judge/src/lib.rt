@@ -132,13 +132,7 @@ fn judge_number(
 }
 
 // An arrival that doesn't lie before base, by its place among the numbers held: 12, 13, 14, 15, or what it changes.
-fn judge_place(
-    w: Words,
-    numbers: &[u32],
-    starts: &[u32],
-    ends: &[u32],
-    number: u32,
-) -> Arrival
+fn judge_place(w: Words, numbers: &[u32], starts: &[u32], ends: &[u32], number: u32) -> Arrival
     ensures { λ r. ⌜ ((runs : List Range) (records : List Record) → numbersOf records ≡ now (numbers .entry) → startsOf runs ≡ now (starts .entry) → endsOf runs ≡ now (ends .entry)
         → (pdcp : ℕ) → JudgesPlace r (stateOf w runs records) number pdcp) ⌝ }
 {
