@@ -15,7 +15,7 @@ use Rattle.bearer.specs.Losses.{goesBefore}
 use Rattle.bearer.specs.Keeper.{Keeper, Record, noRecord, runWith, letGo, highestOf, unreported, statusNow, reportedAs, status}
 use Rattle.keeper_state.specs.declared.Words.{Words}
 use Rattle.keeper_state.specs.State.{isOpen, modulusIn, stateOf, recordsOf}
-use Rattle.keeper_report.specs.Reports.{goneOf}
+use Rattle.keeper_report.specs.Reports.{goneOf, goes, highestAt}
 use Rattle.keeper_state.proofs.Records.{recordOf, record-at, records-count}
 
 -- ---- 9, 22
@@ -37,15 +37,6 @@ module _ (w : Words) (runs : List Range) (records : List Record) (final : Bool) 
     written h = rw (opened, h)
 
 -- ---- the records from place i on
-
--- a record that may go, by the starts of the runs left out
-abbrev pub goes : ℕ → List ℕ → Record → Bool
-goes M ss r = goesBefore M ss (r .number) (r .confirmed)
-
--- the highest that is reported when so many go
-abbrev pub highestAt : ℕ → List ℕ → ℕ → ℕ
-highestAt reported ps zero = reported
-highestAt reported ps (suc i) = getD ps i 0
 
 -- no more go than there are
 pub run-within : (p : Record → Bool) (rs : List Record) → runWith p rs ≤ length rs
