@@ -85,9 +85,11 @@ returns c =
     let p = looping (c .before) in
     let s = start p in
     let a = s .args in
-    let not : goes-now p ≡ false = sym (c .before .may-go .ensures) ∙ not-true _ (c .if1 .taken) in
-    (p .loop .inv .0, λ ps same.
-    omega (arith, p .loop .inv .1 ps same, go-stops (a .numbers .now) ps (a .marks .now) same (s .pre) (M p) (left p) (p .loop .i) (omega arith) not))
+    let not : goes-now p ≡ false = sym (c .before .may-go .ensures) ∙ not-true _ (c .if1 .taken) in (
+      p .loop .inv .0,
+      λ ps same.
+          omega (arith, p .loop .inv .1 ps same, go-stops (a .numbers .now) ps (a .marks .now) same (s .pre) (M p) (left p) (p .loop .i) (omega arith) not),
+    )
 
 add-i : tie.Need-add-i Inv-loop μ-loop
 add-i c = search needs
@@ -100,19 +102,23 @@ loop-again c =
     let p = looping (c .before) in
     let s = start p in
     let a = s .args in
-    let yes : goes-now p ≡ true = sym (c .before .may-go .ensures) ∙ not-false _ (c .if1 .left) in
-    (omega arith, λ ps same.
-    omega (arith, p .loop .inv .1 ps same, go-more (a .numbers .now) ps (a .marks .now) same (s .pre) (M p) (left p) (p .loop .i) (omega arith) yes))
+    let yes : goes-now p ≡ true = sym (c .before .may-go .ensures) ∙ not-false _ (c .if1 .left) in (
+      omega arith,
+      λ ps same.
+          omega (arith, p .loop .inv .1 ps same, go-more (a .numbers .now) ps (a .marks .now) same (s .pre) (M p) (left p) (p .loop .i) (omega arith) yes),
+    )
 
 returns-2 : tie.Need-returns-2 Inv-loop μ-loop
 returns-2 c =
     let p = c .before in
     let s = start p in
-    let a = s .args in
-    (p .loop .inv .0, λ ps same.
-    let past : length (records p ps) ≤ p .loop .i = omega (arith, count-all (a .numbers .now) ps (a .marks .now) same (s .pre)) in
-    let none : drop (p .loop .i) (records p ps) ≡ [] = drop-of-length-le (records p ps) past in
-    omega (arith, rw none at (p .loop .inv .1 ps same)))
+    let a = s .args in (
+      p .loop .inv .0,
+      λ ps same.
+          let past : length (records p ps) ≤ p .loop .i = omega (arith, count-all (a .numbers .now) ps (a .marks .now) same (s .pre)) in
+          let none : drop (p .loop .i) (records p ps) ≡ [] = drop-of-length-le (records p ps) past in
+          omega (arith, rw none at (p .loop .inv .1 ps same)),
+    )
 
 pub going-spec : {M : Type 1} → statement M
 going-spec =
