@@ -2,14 +2,13 @@
 -- each distance, place, gap and run of specs/Keeper.antt is that of the machine on packet indexes (Index.antt).
 -- Assumes nothing.
 use mathlib.Core.Path.{_≡_, refl, sym, _∙_, ap, ap₂}
-use mathlib.Core.Bool.{Bool, true, false}
+use mathlib.Core.Bool.{Bool, true}
 use mathlib.Core.List.{List, [], _∷_, _++_, map, map-map, map-append}
 use Prim.Native.Nat.{ℕ, zero, suc, _+_, _-_, _%_, _≤_, _<_, max}
 use native.Mathlib.Omega.{arith}
 use borrow.Author.Tests.{leb-true, lt-ltb, le-ltb}
 use lib.Dec.{ltb, leb, eqb}
 use lib.ListN.{length, getD, drop, length-map}
-use Rattle.basics.specs.Basics.{if_then_else_}
 use Rattle.basics.proofs.Choices.{eqb-alike, choice}
 use Rattle.basics.proofs.Lists.{map-drop, getD-within}
 use Rattle.circle.specs.Circle.{forward}

@@ -4,12 +4,12 @@
 use mathlib.Core.Path.{_≡_, refl, sym, _∙_, ap}
 use mathlib.Core.Bool.{Bool, true, false, not}
 use mathlib.Core.List.{List, [], _∷_, map, map-map}
-use Prim.Native.Nat.{ℕ, zero, suc, _+_, _-_, _≤_, _<_}
+use Prim.Native.Nat.{ℕ, zero, suc, _+_, _≤_, _<_}
 use native.Mathlib.Omega.{arith}
 use borrow.Author.Tests.{ltb-true, leb-false, eqb-true, not-false}
 use lib.Dec.{ltb, leb, eqb}
 use lib.ListN.{length, getD, take, drop, set, length-map}
-use Rattle.basics.specs.Basics.{if_then_else_, _and_, _or_, done, all}
+use Rattle.basics.specs.Basics.{if_then_else_, _and_, done}
 use Rattle.basics.proofs.Choices.{or-false}
 use Rattle.basics.proofs.Lists.{map-take, map-drop, map-set, getD-within}
 use Rattle.circle.specs.Lengths.{modulusOf, half}
