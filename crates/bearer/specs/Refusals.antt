@@ -81,8 +81,8 @@ NotToConfirm L first a base n =
 abbrev pub NoneToExpire : Fates → Type 0
 NoneToExpire r = (i : ℕ) → i < highest (r .received) → isOpen r i ≡ false
 
--- "Arrival: 9, 10, 11, 12, 13, 14, 15.", with request One's "18 for an opposite arrival, after 10 and before 11, which is then given only above
--- M/2": one opposite base, and one behind it
+-- "Arrival: 9, 10, 18, 11, 12, 13, 14, 15." as request One leaves it, "18 for an opposite arrival, after 10 and before 11, which is then given
+-- only above M/2": 18 for one opposite base, 11 for one behind it
 abbrev pub arrivalRefusals : ℕ → ℕ → Account → ℕ → ℕ → ℕ → List Refusal
 arrivalRefusals L first a base n p =
     (9 when (a .final ≡ true))
