@@ -1,5 +1,5 @@
-/* The secondary's end from C: document 01's bench sheet, and a block that was never opened, played through x2u.h. Each line says what was
- * done and what came of it; the exit status is 0 if every outcome is the one wanted.
+/* The secondary's end from C: document 01's bench sheet as request One left it, and a block that was never opened, played through x2u.h.
+ * Each line says what was done and what came of it; the exit status is 0 if every outcome is the one wanted.
  *
  *     gcc -Iinclude examples/secondary.c "$(scripts/archive.sh)" -o secondary && ./secondary */
 #include <stdio.h>
@@ -90,7 +90,8 @@ static void window(void)
     x2u_open(&k, 12, 0, 0);
     outcome("instead 32767: lost", x2u_arrive(&k, 32767, 0), 32512);
     x2u_open(&k, 12, 0, 0);
-    outcome("instead 32768", x2u_arrive(&k, 32768, 0), -X2U_LATE);
+    outcome("instead 32768, opposite base", x2u_arrive(&k, 32768, 0), -X2U_OPPOSITE);
+    outcome("instead 32769, behind base", x2u_arrive(&k, 32769, 0), -X2U_LATE);
 }
 
 /* A status with one range, as it is read: its highest and its range. */

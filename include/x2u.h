@@ -33,7 +33,7 @@
 #include <stddef.h>
 #include <stdint.h>
 
-#define X2U_VERSION 20000 /* 2.0.0, see CHANGELOG.md */
+#define X2U_VERSION 20100 /* 2.1.0, see CHANGELOG.md */
 
 #if SIZE_MAX != 0xffffffffffffffff
 #error "x2u.h: size_t is to be 64 bits wide: there is no archive for x32 and for 32-bit processors"
@@ -54,13 +54,14 @@ enum {
     X2U_PDCP_LENGTH = 7,  /* L is not 12, 15 or 18 */
     X2U_CLOSED = 9,       /* this end is closed, or was never opened */
     X2U_NUMBER = 10,      /* an X2-U number is M or more, or a PDCP number 2^L or more */
-    X2U_LATE = 11,        /* forward from base to the number is M/2 or more */
+    X2U_LATE = 11,        /* forward from base to the number is more than M/2 */
     X2U_AGAIN = 12,       /* the number already has a record */
     X2U_SPAN = 13,        /* floor to base and base to the arrival are M/2 or more */
     X2U_RUNS = 14,        /* more than 256 runs would be listed */
     X2U_RECORDS = 15,     /* 512 records are held */
     X2U_NO_RECORD = 16,   /* no record of that number, or not before base, or already confirmed */
     X2U_NO_GAP = 17,      /* no open number below the highest accepted */
+    X2U_OPPOSITE = 18,    /* forward from base to the number is exactly M/2 */
     X2U_ROOM = 20,        /* buffer shorter than the frame */
     X2U_FINAL_RUNS = 22   /* Final asked while listed runs exceed 162 */
 };
@@ -158,7 +159,7 @@ typedef struct x2u_keeper {
 /* Opens the end, whatever the block held: L, the first X2-U number and the first PDCP number. 0. */
 static inline int64_t x2u_open(x2u_keeper *k, uint32_t length, uint32_t number, uint32_t pdcp);
 
-/* A packet arrived: how many numbers became lost. */
+/* A packet arrived: how many numbers became lost. A stray copy gets -X2U_LATE, -X2U_OPPOSITE or -X2U_AGAIN. */
 static inline int64_t x2u_arrive(x2u_keeper *k, uint32_t number, uint32_t pdcp);
 
 /* Each open number below the highest accepted one is lost: how many. */

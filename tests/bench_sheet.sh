@@ -1,5 +1,6 @@
 #!/usr/bin/env bash
-# Document 01's bench sheet, played call by call on the proved engines by replay: the cases of tests/calls/, and 163 listed runs.
+# Document 01's bench sheet as request One left it, played call by call on the proved engines by replay: the cases of tests/calls/, 163
+# listed runs, and half a circle of packets.
 set -u
 cd "$(dirname "$0")/.."
 passed=0
@@ -55,6 +56,24 @@ done < <(cat tests/calls/bench-sheet.txt && echo)
   echo "take = refused 38"
 } >"$work/calls"
 play "163 listed runs"
+
+# Half a circle of packets, in batches of 256: each is sent, arrives, is confirmed, reported and freed. Then 32768 were sent, and base is the
+# next. A copy of packet 0 has 32767 sent after it, fewer than M/2, so demand 3 allows it: it lies opposite base, and one of packet 1 behind
+# it. After one more send demand 3 allows no copy of packet 0
+awk 'BEGIN {
+  print "open 15 0 0 = ok"
+  for (p = 0; p < 32768; p += 256) {
+    for (i = p; i < p + 256; i++) printf "send %d = sent %d\narrive %d %d = lost 0\nconfirm %d = ok\n", i, i, i, i, i
+    frame = sprintf("10%04x0000000700000006000000", i - 1)
+    printf "status 7 6 0 14 = frame %s\naccept %s = freed 256 lost 0 final 0\n", frame, frame
+  }
+  print "keeper = keeper 32768 32767 0 none none"
+  print "ledger = ledger 32768 32767 32767 0 7 6 none"
+  print "arrive 0 0 = refused 18"
+  print "arrive 1 1 = refused 11"
+  print "send 0 = sent 32768"
+}' >"$work/calls"
+play "half a circle of packets"
 
 echo "$passed passed, $failed failed"
 [ "$failed" -eq 0 ]

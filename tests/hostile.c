@@ -111,7 +111,7 @@ static const int of_read[] = {1, 2, 3, 4, 5, 6, 0};
 static const int of_data[] = {10, 20, 0};
 static const int of_write[] = {4, 5, 10, 20, 0};
 static const int of_open[] = {7, 10, 0};
-static const int of_arrive[] = {9, 10, 11, 12, 13, 14, 15, 0};
+static const int of_arrive[] = {9, 10, 18, 11, 12, 13, 14, 15, 0};
 static const int of_expire[] = {9, 14, 17, 0};
 static const int of_confirm[] = {9, 10, 16, 0};
 /* 4 and 10 only in states that no calls reach: a highest or a run of garbage */
@@ -436,6 +436,9 @@ static void full(void)
     must(&p, x2u_arrive(k, (first + 513) % 65536, f + 513) == 0 && x2u_expire(k) == -X2U_RUNS, "256 runs are listed");
     for (uint32_t n = 512; n <= 767; n++) must(&p, x2u_arrive(k, (first + n) % 65536, f + n) == (n == 513 ? -X2U_LATE : 0), "then each number");
     must(&p, x2u_arrive(k, (first + 768) % 65536, f + 768) == -X2U_RECORDS, "512 records are held");
+    must(&p, x2u_arrive(k, (first + 768 + 32768) % 65536, 4096) == -X2U_NUMBER, "opposite base, past the PDCP circle");
+    must(&p, x2u_arrive(k, (first + 768 + 32768) % 65536, f) == -X2U_OPPOSITE, "opposite base");
+    must(&p, x2u_arrive(k, (first + 768 + 32769) % 65536, f) == -X2U_LATE, "behind base");
     must(&p, x2u_confirm(k, (first + 767) % 65536) == 0 && x2u_confirm(k, (first + 1) % 65536) == 0, "confirm the last and the first");
     carries(&p, k, first, 0, X2U_MOST_RANGES, f + 1);
     for (uint32_t n = 766; n >= 3; n -= n >= 512 ? 1 : 2) must(&p, x2u_confirm(k, (first + n) % 65536) == 0, "confirm the others");

@@ -37,6 +37,8 @@ for bits in 12 15 18; do
   holds "L $bits, its report" grep -q '^Result: PASSED at 2,000 packets a second, as asked for' "$out/$bits.txt"
   holds "L $bits, both circles rolled over" [ "$(sed -n '/^Rollovers met/,/^$/s/ numbers  *[1-9].*//p' "$out/$bits.txt" | wc -l)" -eq 2 ]
   holds "L $bits, its chart" grep -q '>PASSED</text>' "$out/$bits.svg"
+  # of the long form no half circle is sent in this time
+  [ $bits = 18 ] || holds "L $bits, a copy opposite base" grep -qE '^  secondary, arrive +18 .* [0-9,]+$' "$out/$bits.txt"
 done
 
 # What is signed: where and on what it was made, and figures that add up

@@ -188,7 +188,7 @@ sheet =
     ∷ secondary (K.openKeeper 12 0 0) (arrives 255 0 (done 0) ∷ []) 0
     ∷ secondary (K.openKeeper 12 0 0) (arrives 256 0 (done 1) ∷ []) 1
     ∷ secondary (K.openKeeper 12 0 0) (arrives 32767 0 (done 32512) ∷ []) 32512
-    ∷ secondary (K.openKeeper 12 0 0) (arrives 32768 0 (refused 11) ∷ []) 0
+    ∷ secondary (K.openKeeper 12 0 0) (arrives 32768 0 (refused 18) ∷ []) 0
     ∷ secondary (K.openKeeper 12 0 0) (arrives 256 0 (done 1) ∷ arrives 32768 0 (refused 13) ∷ []) 1
     ∷ secondary (K.openKeeper 12 65534 4095) (over-rollover []) 1
     ∷ secondary (K.openKeeper 12 65534 4095) (over-rollover (confirms 0 (done tt) ∷ reports 65536 4096 false (status-of (telling false 4094 65536 4096 ((65535 to 65535) ∷ []))) ∷ [])) 1
@@ -233,13 +233,15 @@ are-read =
     ∷ octets-read (0x2C ∷ 0x03 ∷ 0xFF ∷ 0xFF ∷ size-octets ++ drop 1 extension) (status-of (telling true 262143 65536 4096 []))
     ∷ []
 
--- each L has its circles: 15 bits and the short form, 18 bits and the long one
+-- each L has its circles: 15 bits and the short form, 18 bits and the long one; a record and a listed number opposite base lie before it
 abbrev pub circles : List Case
 circles =
     secondary (K.openKeeper 15 0 0) (arrives 32767 32767 (done 32512) ∷ []) 32512
-    ∷ secondary (K.openKeeper 15 0 0) (arrives 32768 0 (refused 11) ∷ arrives 0 32768 (refused 10) ∷ []) 0
+    ∷ secondary (K.openKeeper 15 0 0) (arrives 32768 0 (refused 18) ∷ arrives 32769 0 (refused 11) ∷ arrives 0 32768 (refused 10) ∷ []) 0
     ∷ secondary (K.openKeeper 18 0 0) (arrives 8388607 262143 (done 8388352) ∷ []) 8388352
-    ∷ secondary (K.openKeeper 18 0 0) (arrives 8388608 0 (refused 11) ∷ arrives 0 262144 (refused 10) ∷ []) 0
+    ∷ secondary (K.openKeeper 18 0 0) (arrives 8388608 0 (refused 18) ∷ arrives 8388609 0 (refused 11) ∷ arrives 0 262144 (refused 10) ∷ []) 0
+    ∷ secondary (K.openKeeper 12 0 0) (arrives 0 0 (done 0) ∷ arrives 32767 0 (done 32511) ∷ expires (done 255) ∷ confirms 0 (done tt) ∷ arrives 0 0 (refused 18) ∷ arrives 1 0 (refused 11) ∷ arrives 32768 0 (refused 13) ∷ []) 32768
+    ∷ secondary (K.openKeeper 12 0 0) (arrives 32767 0 (done 32512) ∷ expires (done 255) ∷ arrives 0 0 (refused 18) ∷ arrives 1 0 (refused 11) ∷ arrives 32768 0 (refused 13) ∷ []) 32768
     ∷ master (G.openLedger 15 0 0) 16382 (done 0)
     ∷ master (G.openLedger 15 0 0) 16383 (refused 35)
     ∷ master (G.openLedger 18 0 0) 131070 (done 0)
@@ -285,9 +287,10 @@ secondary-orders =
     -- open: 7 before 10, 10
     not-opened 13 65536 0 7
     ∷ not-opened 12 65536 0 10
-    -- arrival: 9 before 10, 10 before 11, 11 before 12, 12 before 13, 13 before 14, 14 before 15
+    -- arrival: 9 before 10, 10 before 18 and 11 (no number is both), 18 and 11 before 12, 12 before 13, 13 before 14, 14 before 15
     ∷ secondary (done shut) (arrives 65536 0 (refused 9) ∷ expires (refused 9) ∷ confirms 65536 (refused 9) ∷ []) 1000
-    ∷ secondary (K.openKeeper 12 0 0) (arrives 105536 0 (refused 10) ∷ arrives 40000 4096 (refused 10) ∷ []) 0
+    ∷ secondary (K.openKeeper 12 0 0) (arrives 98304 0 (refused 10) ∷ arrives 32768 4096 (refused 10) ∷ arrives 105536 0 (refused 10) ∷ arrives 40000 4096 (refused 10) ∷ []) 0
+    ∷ secondary (done (K.freshKeeper 12 1000 1 with-records (K.newRecord 33768 0 ∷ []))) (arrives 33768 0 (refused 18) ∷ []) 1000
     ∷ secondary (K.openKeeper 12 0 0) (arrives 0 0 (done 0) ∷ arrives 0 0 (refused 11) ∷ []) 1
     ∷ secondary (done (K.freshKeeper 12 1000 1 with-runs ((33768 to 33768) ∷ []) with-records (K.newRecord 1001 0 ∷ []))) (arrives 1001 0 (refused 12) ∷ []) 1000
     ∷ secondary (done (listing 256)) (arrives 32768 0 (refused 13) ∷ []) 1000
@@ -338,7 +341,7 @@ are-read-hold : AllHold are-read
 are-read-hold = (refl, (refl, (refl, (refl, (refl, (refl, (refl, (refl, (refl, tt)))))))))
 
 circles-hold : AllHold circles
-circles-hold = ((refl, refl), ((refl, (refl, refl)), ((refl, refl), ((refl, (refl, refl)), (refl, (refl, (refl, (refl, ((refl, refl), ((refl, refl), ((refl, refl), ((refl, refl), tt))))))))))))
+circles-hold = ((refl, refl), ((refl, (refl, (refl, refl))), ((refl, refl), ((refl, (refl, (refl, refl))), ((refl, (refl, (refl, (refl, (refl, (refl, (refl, refl))))))), ((refl, (refl, (refl, (refl, (refl, refl))))), (refl, (refl, (refl, (refl, ((refl, refl), ((refl, refl), ((refl, refl), ((refl, refl), tt))))))))))))))
 
 stores-hold : AllHold stores
 stores-hold = ((refl, refl), ((refl, refl), ((refl, refl), ((refl, refl), ((refl, refl), (refl, (refl, ((refl, refl), ((refl, refl), tt)))))))))
@@ -347,7 +350,7 @@ frame-orders-hold : AllHold frame-orders
 frame-orders-hold = (refl, (refl, (refl, (refl, (refl, (refl, (refl, (refl, tt))))))))
 
 secondary-orders-hold : AllHold secondary-orders
-secondary-orders-hold = ((refl, refl), ((refl, refl), ((refl, (refl, (refl, refl))), ((refl, (refl, refl)), ((refl, (refl, refl)), ((refl, refl), ((refl, refl), ((refl, refl), ((refl, refl), ((refl, (refl, refl)), ((refl, refl), ((refl, (refl, refl)), tt))))))))))))
+secondary-orders-hold = ((refl, refl), ((refl, refl), ((refl, (refl, (refl, refl))), ((refl, (refl, (refl, (refl, refl)))), ((refl, refl), ((refl, (refl, refl)), ((refl, refl), ((refl, refl), ((refl, refl), ((refl, refl), ((refl, (refl, refl)), ((refl, refl), ((refl, (refl, refl)), tt)))))))))))))
 
 master-orders-hold : AllHold master-orders
 master-orders-hold = (refl, (refl, (refl, (refl, (refl, (refl, (refl, (refl, (refl, (refl, tt))))))))))

@@ -15,7 +15,7 @@ use mathlib.Core.Bool.{Bool, true, false}
 use mathlib.Core.List.{List, [], _∷_, _++_, map}
 use mathlib.Core.Logic.{_⊎_, _↔_}
 use Prim.Native.Nat.{ℕ, _+_, _-_, _^_, _≤_, _<_}
-use lib.Dec.{ltb}
+use lib.Dec.{ltb, eqb}
 use lib.ListN.{length, getD, take}
 use Rattle.basics.specs.Basics.{Outcome, done, refused, isDone}
 use Rattle.circle.specs.Lengths.{half}
@@ -109,19 +109,21 @@ Deserved L w i = In i (confirmedThen w) × ((j : ℕ) → j < i → In j (confir
 abbrev pub FreedExactly : ℕ → World → Type 0
 FreedExactly L w = (i : ℕ) → In i (w .freed) ↔ Deserved L w i
 
--- what a copy is answered: how many became lost, if the packet is open; else that it is late, if it lies before base, and that it has a
--- record, if it doesn't
-abbrev pub Answered : Bool → Bool → ℕ → Outcome ℕ → Type 0
-Answered true before c a = a ≡ done c
-Answered false true c a = a ≡ refused 11
-Answered false false c a = a ≡ refused 12
+-- what a copy is answered, by whether its packet is open, lies before base, and lies M/2 before it: of an open packet, how many became lost; of
+-- one before base, that it is opposite, if M/2 before it, and else that it is late; of any other, that it has a record
+abbrev pub Answered : Bool → Bool → Bool → ℕ → Outcome ℕ → Type 0
+Answered true before half-before c a = a ≡ done c
+Answered false true true c a = a ≡ refused 18
+Answered false true false c a = a ≡ refused 11
+Answered false false half-before c a = a ≡ refused 12
 
--- until the secondary has built a frame with Final it takes each copy of an open packet and answers how many our rule declares lost by it; it
--- refuses any other copy with 11 if the packet lies before base (every lost one does) and with 12 if not: 13, 14 and 15 are never given
+-- until the secondary has built a frame with Final it takes each copy of an open packet and answers how many our rule declares lost by it; of the
+-- others it refuses with 18 exactly those whose packet lies M/2 before base, with 11 any other whose packet lies before base (every lost one
+-- does), and with 12 the rest: 13, 14 and 15 are never given
 abbrev pub CopiesAnswered : ℕ → ℕ → World → Type 0
 CopiesAnswered L first w =
     hadFinal (w .built) ≡ false → (i base : ℕ) → Allowed L w (copy i) → Lowest (w .fates) base
-    → Answered (isOpen (w .fates) i) (ltb i base) (length (arrival (w .fates) i .lost) - length (w .fates .lost))
+    → Answered (isOpen (w .fates) i) (ltb i base) (eqb (i + half L) base) (length (arrival (w .fates) i .lost) - length (w .fates .lost))
     (K.arrive (w .keeper) (numberOf L first i) (getD (w .sent) i 0) .answer)
 
 -- "Final closes this end": the secondary is closed exactly if it has built a frame with Final, and the master exactly if it has accepted one

@@ -10,11 +10,12 @@ use Prim.Native.Nat.{ℕ, zero, suc, _+_, _-_, _%_}
 use lib.Dec.{ltb, leb, eqb}
 use lib.ListN.{length, getD, take, drop, set}
 use Rattle.circle.specs.Circle.{forward}
+use Rattle.circle.specs.Sides.{Side, same, ahead, behind, opposite, lies}
 use Rattle.basics.specs.Basics.{if_then_else_, _and_, _or_, Outcome, done, refused}
 use Rattle.frame_layout.specs.Frames.{Range, Status, Written, mostRanges, startsOf, writeStatus}
 use Rattle.bearer.specs.Bearer.{window, mostRuns, mostRecords, After, refusing, answering}
 use Rattle.circle.specs.Lengths.{isLength, isLong, modulusOf, half, pdcps, pdcpBefore}
-use Rattle.bearer.specs.Losses.{beforeBase, floorBehind, placeIn, bearsBefore, topOf, offsets, aboveBase, Gap, lostBelow, sizeOf, lowest, raisedBase, newRuns, withRuns, goesBefore}
+use Rattle.bearer.specs.Losses.{before, floorBehind, placeIn, bearsBefore, topOf, offsets, aboveBase, Gap, lostBelow, sizeOf, lowest, raisedBase, newRuns, withRuns, goesBefore}
 
 -- a packet that arrived: its two numbers, and whether the handset has it
 pub record Record : Type 0 where
@@ -105,9 +106,9 @@ starts k = startsOf (k .runs)
 abbrev pub floor : Keeper → ℕ
 floor k = floorBehind (modulusOf (k .bits)) (k .base) (starts k) (held k)
 
--- where among the records the number d forward from base belongs: in front of the last ones that are all past it
+-- where among the records a number belongs: in front of the last ones that all lie ahead of it
 abbrev pub placeOf : Keeper → ℕ → ℕ
-placeOf k d = placeIn (modulusOf (k .bits)) (k .base) (held k) d
+placeOf k n = placeIn (modulusOf (k .bits)) (held k) n
 
 -- the record in front of that place bears the number already
 abbrev pub hasRecord : Keeper → ℕ → ℕ → Bool
@@ -168,13 +169,23 @@ arriveAt k n p i d =
     if leb mostRecords (length (k .records)) then refusing 15 k else
     answering (sizeOf (givenUp k (limitOf d))) (arrived k n p i d)
 
--- arrival of a number and a PDCP number: 9, 10, 11, and then by its place
+-- one that doesn't lie before base: by its place among the records and its distance
+abbrev pub arriveOn : Keeper → ℕ → ℕ → After Keeper ℕ
+arriveOn k n p = arriveAt k n p (placeOf k n) (forward (modulusOf (k .bits)) (k .base) n)
+
+-- by how the number lies to base: 18, 11, or as it goes on
+abbrev pub arriveBy : Keeper → ℕ → ℕ → Side → After Keeper ℕ
+arriveBy k n p opposite = refusing 18 k
+arriveBy k n p behind = refusing 11 k
+arriveBy k n p same = arriveOn k n p
+arriveBy k n p ahead = arriveOn k n p
+
+-- arrival of a number and a PDCP number: 9, 10, and then by how it lies to base
 abbrev pub arrive : Keeper → ℕ → ℕ → After Keeper ℕ
 arrive k n p =
     if k .closed then refusing 9 k else
     if not (ltb n (modulusOf (k .bits)) and ltb p (pdcps (k .bits))) then refusing 10 k else
-    if beforeBase (modulusOf (k .bits)) (k .base) n then refusing 11 k else
-    arriveAt k n p (placeOf k (forward (modulusOf (k .bits)) (k .base) n)) (forward (modulusOf (k .bits)) (k .base) n)
+    arriveBy k n p (lies (modulusOf (k .bits)) (k .base) n)
 
 -- ---- expiry
 
@@ -208,7 +219,7 @@ delivered r = record { number = r .number; pdcp = r .pdcp; confirmed = true }
 
 -- the record of n at the place i isn't to be confirmed: n isn't before base, or it is confirmed already
 abbrev pub notNow : Keeper → ℕ → ℕ → Bool
-notNow k n i = not (beforeBase (modulusOf (k .bits)) (k .base) n) or getD (k .records) i noRecord .confirmed
+notNow k n i = not (before (modulusOf (k .bits)) (k .base) n) or getD (k .records) i noRecord .confirmed
 
 -- the record of n at the place i: 16, or it is marked
 abbrev pub confirmAt : Keeper → ℕ → ℕ → After Keeper Unit
@@ -228,7 +239,7 @@ confirm k n =
 
 -- a record that a status may let go: confirmed, and before the first run left out
 abbrev pub mayGo : Keeper → List Range → Record → Bool
-mayGo k left r = goesBefore (modulusOf (k .bits)) (k .base) (startsOf left) (r .number) (r .confirmed)
+mayGo k left r = goesBefore (modulusOf (k .bits)) (startsOf left) (r .number) (r .confirmed)
 
 -- how many elements at the front of a list have a property
 abbrev pub runWith : {A : Type 0} → (A → Bool) → List A → ℕ

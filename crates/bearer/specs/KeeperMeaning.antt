@@ -62,8 +62,8 @@ pub record Means (L first : ℕ) (k : Keeper) (a : Account) : Type 0 where
   pub state-is : k ≡ keeperOf L first base a
   -- "Each number from the first on is open, received or lost", never two of them
   pub not-both : (i : ℕ) → In i (a .fates .received) → isIn i (a .fates .lost) ≡ false
-  -- the lost were declared in sending order, each once; all lie before base ("A lost number that arrives later is late"), and no more were
-  -- reported than are lost
+  -- the lost were declared in sending order, each once; all lie before base ("A lost number that arrives later is late", or since
+  -- request One opposite, if it lies M/2 before base), and no more were reported than are lost
   pub lost-rising : Rising (a .fates .lost)
   pub lost-before : (i : ℕ) → In i (a .fates .lost) → i < base
   pub told-most : a .told ≤ length (a .fates .lost)

@@ -1,28 +1,48 @@
--- Where numbers lie as seen from base, and what is given up: definitions on lists of numbers of a circle of M, for the
--- secondary's machine (Keeper.antt). Distances are forward from base. Every definition is total.
+-- How numbers lie to each other, where they lie as seen from base, and what is given up: definitions on lists of numbers of a circle of M, for the
+-- secondary's machine (Keeper.antt). Two numbers are compared by how one lies to the other (the crate circle, Sides.antt); distances are
+-- forward from base. Every definition is total.
 -- Assumes nothing.
-use mathlib.Core.Bool.{Bool, false, not}
+use mathlib.Core.Bool.{Bool, true, false, not}
 use mathlib.Core.List.{List, [], _∷_, _++_, map}
-use Prim.Native.Nat.{ℕ, zero, suc, _+_, _-_, _/_, _%_, max}
+use Prim.Native.Nat.{ℕ, zero, suc, _+_, _-_, _%_, max}
 use lib.Dec.{ltb, leb, eqb}
 use lib.ListN.{getD, drop}
 use Rattle.circle.specs.Circle.{forward}
+use Rattle.circle.specs.Sides.{Side, same, ahead, behind, opposite, lies}
 use Rattle.basics.specs.Basics.{if_then_else_, _and_, _or_, all}
 use Rattle.frame_layout.specs.Frames.{Range}
 
 -- ---- where numbers lie
 
--- a number that lies before base: half the circle forward from it, or more
-abbrev pub beforeBase : ℕ → ℕ → ℕ → Bool
-beforeBase M base n = leb (M / 2) (forward M base n)
+-- what lies behind a number or opposite it lies before it
+abbrev pub isBefore : Side → Bool
+isBefore same = false
+isBefore ahead = false
+isBefore behind = true
+isBefore opposite = true
+
+-- n lies before a: "A record or listed number opposite base still lies before it."
+abbrev pub before : ℕ → ℕ → ℕ → Bool
+before M a n = isBefore (lies M a n)
 
 -- how far a number that lies before base is behind it; 0 for any other
-abbrev pub behind : ℕ → ℕ → ℕ → ℕ
-behind M base n = if beforeBase M base n then forward M n base else 0
+abbrev pub farBehind : ℕ → ℕ → ℕ → ℕ
+farBehind M base n = if before M base n then forward M n base else 0
 
--- a number that lies c or more forward from base, and not before it
-abbrev pub fromOn : ℕ → ℕ → ℕ → ℕ → Bool
-fromOn M base c n = leb c (forward M base n) and not (beforeBase M base n)
+-- a number lies ahead of another
+abbrev pub isAhead : Side → Bool
+isAhead same = false
+isAhead ahead = true
+isAhead behind = false
+isAhead opposite = false
+
+-- n lies ahead of a
+abbrev pub aheadOf : ℕ → ℕ → ℕ → Bool
+aheadOf M a n = isAhead (lies M a n)
+
+-- n is a or lies ahead of it
+abbrev pub fromOn : ℕ → ℕ → ℕ → Bool
+fromOn M a n = not (before M a n)
 
 -- how many elements stand in front of the longest end of a list all of which has a property
 abbrev pub frontOf : {A : Type 0} → (A → Bool) → List A → ℕ
@@ -32,34 +52,38 @@ frontOf p (x ∷ xs) = if all p (x ∷ xs) then 0 else suc (frontOf p xs)
 -- how far the first number of a list is behind base; 0 for none
 abbrev pub firstBehind : ℕ → ℕ → List ℕ → ℕ
 firstBehind M base [] = 0
-firstBehind M base (n ∷ ns) = behind M base n
+firstBehind M base (n ∷ ns) = farBehind M base n
 
 -- how far floor, the earliest of base and the first numbers of two lists, is behind base
 abbrev pub floorBehind : ℕ → ℕ → List ℕ → List ℕ → ℕ
 floorBehind M base ms ns = max (firstBehind M base ms) (firstBehind M base ns)
 
--- where in a list the number d forward from base belongs: in front of the last ones that are all past it
-abbrev pub placeIn : ℕ → ℕ → List ℕ → ℕ → ℕ
-placeIn M base ns d = frontOf (fromOn M base (suc d)) ns
+-- where in a list a number belongs: in front of the last ones that all lie ahead of it
+abbrev pub placeIn : ℕ → List ℕ → ℕ → ℕ
+placeIn M ns n = frontOf (aheadOf M n) ns
 
 -- the number in front of a place of a list is n
 abbrev pub bearsBefore : List ℕ → ℕ → ℕ → Bool
 bearsBefore ns n zero = false
 bearsBefore ns n (suc i) = eqb (getD ns i 0) n
 
--- how far the last number of a list is forward from base; 0 for none, or for one before base
+-- how far a number that doesn't lie before base is past it; 0 for one that does
+abbrev pub farPast : ℕ → ℕ → ℕ → ℕ
+farPast M base n = if before M base n then 0 else forward M base n
+
+-- how far the last number of a list is past base; 0 for none, or for one before base
 abbrev pub topOf : ℕ → ℕ → List ℕ → ℕ
 topOf M base [] = 0
-topOf M base (n ∷ []) = if beforeBase M base n then 0 else forward M base n
+topOf M base (n ∷ []) = farPast M base n
 topOf M base (n ∷ m ∷ ns) = topOf M base (m ∷ ns)
 
 -- how far numbers are forward from base
 abbrev pub offsets : ℕ → ℕ → List ℕ → List ℕ
 offsets M base ns = map (forward M base) ns
 
--- those at the end of a list that all lie at or past base
+-- those at the end of a list that all are base or lie ahead of it
 abbrev pub fromBase : ℕ → ℕ → List ℕ → List ℕ
-fromBase M base ns = drop (frontOf (fromOn M base 0) ns) ns
+fromBase M base ns = drop (frontOf (fromOn M base) ns) ns
 
 -- how far those are forward from base
 abbrev pub aboveBase : ℕ → ℕ → List ℕ → List ℕ
@@ -133,6 +157,6 @@ withRuns M runs [] = runs
 withRuns M runs (r ∷ rs) = joined M runs r ++ rs
 
 -- a number that is confirmed or not may go with a status if it is, and lies before the first run left out, by the starts of those
-abbrev pub goesBefore : ℕ → ℕ → List ℕ → ℕ → Bool → Bool
-goesBefore M base [] n confirmed = confirmed
-goesBefore M base (s ∷ ss) n confirmed = confirmed and ltb (forward M s base) (forward M n base)
+abbrev pub goesBefore : ℕ → List ℕ → ℕ → Bool → Bool
+goesBefore M [] n confirmed = confirmed
+goesBefore M (s ∷ ss) n confirmed = confirmed and before M s n

@@ -6,6 +6,7 @@ use mathlib.Core.Bool.{true}
 use mathlib.Core.List.{List, [], _∷_, _++_, map}
 use Prim.Native.Nat.{ℕ, zero, suc, _+_, _-_, _%_, _^_, _<_}
 use Rattle.circle.specs.Circle.{forward}
+use Rattle.circle.specs.Sides.{Side, lies}
 use Rattle.circle.specs.Lengths.{modulusOf}
 use Rattle.frame_layout.specs.Frames.{Range}
 use Rattle.bearer.specs.Ledger as G
@@ -46,6 +47,10 @@ oneBefore L f = (f + (2 ^ L - 1)) % 2 ^ L
 -- forward from a packet's number to another number
 abbrev pub forwardFrom : ℕ → ℕ → ℕ → ℕ → ℕ
 forwardFrom L first i n = forward (modulusOf L) (numberOf L first i) n
+
+-- how a number lies as seen from a packet's
+abbrev pub liesFrom : ℕ → ℕ → ℕ → ℕ → Side
+liesFrom L first i n = lies (modulusOf L) (numberOf L first i) n
 
 -- the packets of entries
 abbrev pub packets : List (G.Entry ℕ) → List ℕ

@@ -1,6 +1,7 @@
--- Document 01's table of refusals and its orders, for both ends: for each number its sentence, of the packets of an account (Account.antt) or of
--- books (LedgerMeaning.antt), in the table's own figures; for each call its numbers in order. Nothing that the machines do is used in them; what
--- stands in a frame is told in the words of the crate frame_layout.
+-- Document 01's table of refusals and its orders, as document 02's requests changed them, for both ends: for each number its sentence, of the
+-- packets of an account (Account.antt) or of books (LedgerMeaning.antt), in the table's own figures; for each call its numbers in order. Nothing
+-- that the machines do is used in them; what stands in a frame is told in the words of the crate frame_layout, and how two numbers lie to each
+-- other in those of the crate circle, where each of the four answers has its sentence (Sides.antt).
 --
 -- What a call answers by them is `Given` (the crate basics, Refusals.antt); the refusals of a frame are those of the crate frame_layout. The
 -- statements are at the end: of every state that calls reach, each call is refused with the first number whose sentence holds, and
@@ -15,6 +16,7 @@ use Prim.Native.Nat.{ℕ, _+_, _-_, _^_, _≤_, _<_, min}
 use lib.ListN.{length, getD}
 use Rattle.basics.specs.Basics.{isDone}
 use Rattle.basics.specs.Refusals.{Refusal, _when_, Given, Some}
+use Rattle.circle.specs.Sides.{behind, opposite}
 use Rattle.circle.specs.Lengths.{isLong, modulusOf, half}
 use Rattle.frame_layout.specs.Frames.{Status, statusType, statusOctets, statusIn}
 use Rattle.frame_layout.specs.Refusals.{typeOf, readRefusals}
@@ -23,7 +25,7 @@ use Rattle.bearer.specs.Bearer.{Keeps}
 use Rattle.bearer.specs.Keeper as K
 use Rattle.bearer.specs.Ledger as G
 use Rattle.bearer.specs.Rule.{Fates, isOpen, Lowest, highest, arrival, expiry}
-use Rattle.bearer.specs.Packets.{numberOf, forwardFrom, packets, In, Rising, Each, inRanges}
+use Rattle.bearer.specs.Packets.{numberOf, forwardFrom, liesFrom, packets, In, Rising, Each, inRanges}
 use Rattle.bearer.specs.Account.{Held, Account, indexes, runsIn, untold, listed, statusOf}
 use Rattle.bearer.specs.KeeperMeaning.{Reached, packetAt}
 use Rattle.bearer.specs.LedgerMeaning.{Books, lastSent, fromHighest, waitingIn, lostIn, LedgerReached}
@@ -79,12 +81,14 @@ NotToConfirm L first a base n =
 abbrev pub NoneToExpire : Fates → Type 0
 NoneToExpire r = (i : ℕ) → i < highest (r .received) → isOpen r i ≡ false
 
--- "Arrival: 9, 10, 11, 12, 13, 14, 15."
+-- "Arrival: 9, 10, 18, 11, 12, 13, 14, 15." as request One leaves it, "18 for an opposite arrival, after 10 and before 11, which is then given
+-- only above M/2": 18 for one opposite base, 11 for one behind it
 abbrev pub arrivalRefusals : ℕ → ℕ → Account → ℕ → ℕ → ℕ → List Refusal
 arrivalRefusals L first a base n p =
     (9 when (a .final ≡ true))
     ∷ (10 when NoNumber L n p)
-    ∷ (11 when (half L ≤ forwardFrom L first base n))
+    ∷ (18 when (liesFrom L first base n ≡ opposite))
+    ∷ (11 when (liesFrom L first base n ≡ behind))
     ∷ (12 when Some (Bears L first n) (a .records))
     ∷ (13 when SpanTooLong L first a base n)
     ∷ (14 when TooManyRuns a (arrival (a .fates) (packetAt L first base n)))

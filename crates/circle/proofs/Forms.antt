@@ -2,7 +2,7 @@
 -- Assumes nothing.
 use mathlib.Core.Path.{_≡_, refl, sym, _∙_}
 use mathlib.Core.Bool.{Bool, true, false}
-use Prim.Native.Nat.{ℕ, _-_, _%_, _^_, _≤_, _<_}
+use Prim.Native.Nat.{ℕ, _+_, _-_, _/_, _%_, _^_, _≤_, _<_}
 use native.Mathlib.Omega.{arith}
 use borrow.Author.Tests.{eqb-true}
 use lib.Bits.{bitAnd, and-mask}
@@ -16,6 +16,11 @@ use Rattle.circle.specs.Lengths.{modulus, isLength, lengthIn, pdcps}
 pub modulus-bounds : (long : Bool) → (0 < modulus long) × (modulus long ≤ 2 ^ 24)
 modulus-bounds true = omega arith
 modulus-bounds false = omega arith
+
+-- half of them, twice, is all of them
+pub halves : (long : Bool) → modulus long / 2 + modulus long / 2 ≡ modulus long
+halves true = refl
+halves false = refl
 
 -- a distance is a number of the form
 pub distance-below : (long : Bool) (a b : ℕ) → forward (modulus long) a b < modulus long

@@ -42,17 +42,21 @@ module _ (M : ℕ) (pos : 0 < M) where
   forward-short a d h = forward-on a d ∙ mod-eq-of-lt h
 
   -- forward from a number to one that lies d behind it: the rest of the turn
-  pub forward-back : (a d : ℕ) → 0 < d → d < M → forward M (a + d) a ≡ M - d
-  forward-back a d h g =
+  pub back-on : (a d : ℕ) → d ≤ M → forward M (a + d) a ≡ (M - d) % M
+  back-on a d h =
       let e : a + d + (M - d) ≡ a + M = omega arith in
       sym (forward-to (a + d) a)
       ∙ ap (λ (x : ℕ). forward M (a + d) x) (sym (add-mod-right a M) ∙ ap (λ (x : ℕ). x % M) (sym e))
       ∙ forward-to (a + d) (a + d + (M - d))
-      ∙ forward-short (a + d) (M - d) (omega arith)
+      ∙ forward-on (a + d) (M - d)
 
-  -- a, and its distance to b: b again
-  pub forward-lands : (a b : ℕ) → b < M → (a + forward M a b) % M ≡ b
-  forward-lands a b h =
+  -- ... which is less than a turn where d is some way
+  pub forward-back : (a d : ℕ) → 0 < d → d < M → forward M (a + d) a ≡ M - d
+  forward-back a d h g = back-on a d (omega arith) ∙ mod-eq-of-lt (omega arith)
+
+  -- a, and its distance to b: b again, whole turns left out
+  pub lands-on : (a b : ℕ) → (a + forward M a b) % M ≡ b % M
+  lands-on a b =
       let r = a % M in
       let below : r < M = mod-lt a pos in
       add-mod-mod a (b % M + (M - r)) M
@@ -60,7 +64,29 @@ module _ (M : ℕ) (pos : 0 < M) where
       ∙ ap (λ (x : ℕ). x % M) (let e : r + (b % M + (M - r)) ≡ b % M + M = omega arith in e)
       ∙ add-mod-right (b % M) M
       ∙ mod-mod b M
-      ∙ mod-eq-of-lt h
+
+  -- ... which is b, if that is a number of the circle
+  pub forward-lands : (a b : ℕ) → b < M → (a + forward M a b) % M ≡ b
+  forward-lands a b h = lands-on a b ∙ mod-eq-of-lt h
+
+  -- the way back is the rest of the turn
+  pub forward-reverse : (a b : ℕ) → forward M b a ≡ (M - forward M a b) % M
+  forward-reverse a b =
+      let far = forward-below a b in
+      sym (forward-from b a)
+      ∙ ap (λ (n : ℕ). forward M n a) (sym (lands-on a b))
+      ∙ forward-from (a + forward M a b) a
+      ∙ back-on a (forward M a b) (omega arith)
+
+  -- both moved by d, with whole turns left out, are as far apart as before
+  pub forward-moved : (a b d : ℕ) → forward M ((a + d) % M) ((b + d) % M) ≡ forward M a b
+  forward-moved a b d =
+      let f = forward M a b in
+      let there : (b + d) % M ≡ (a + d + f) % M = sym (mod-add-mod b M d) ∙ ap (λ (n : ℕ). (n + d) % M) (sym (lands-on a b)) ∙ mod-add-mod (a + f) M d ∙ ap (λ (n : ℕ). n % M) (let e : a + f + d ≡ a + d + f = omega arith in e) in
+      forward-from (a + d) ((b + d) % M)
+      ∙ ap (forward M (a + d)) there
+      ∙ forward-to (a + d) (a + d + f)
+      ∙ forward-short (a + d) f (forward-below a b)
 
   -- no distance from a number to itself
   pub forward-self : (a : ℕ) → forward M a a ≡ 0

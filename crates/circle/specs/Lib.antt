@@ -1,2 +1,4 @@
 pub mod Circle
+pub mod Sides
+pub mod Answers
 pub mod Lengths

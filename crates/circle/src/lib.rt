@@ -1,8 +1,10 @@
-// Numbers on a circle: how far it is forward from one number to another, and the two circles of a bearer. `long` is the form, whose
+// Numbers on a circle: how far it is forward from one number to another, how one lies to another, and the two circles of a bearer. `long` is the form, whose
 // X2-U numbers are below its modulus; `bits` is L, the length of its PDCP numbers, and one that is none of document 01's counts as 18.
 ghost use mathlib.Core.Path.{_≡_};
 ghost use Prim.Native.Nat.{_+_, _/_, _%_, _^_, _<_, min};
 ghost use Rattle.circle.specs.Circle.{forward as «forwardOf»};
+ghost use Rattle.circle.specs.Sides.{lies as «liesOf»};
+ghost use Rattle.circle.specs.Answers.{sideIn};
 ghost use Rattle.circle.specs.Lengths.{modulus as «modulusOf», isLength, isLong, lengthIn, pdcps as «pdcpsOf»};
 
 // Forward from a to b, modulo 2^bits: the wrapping difference, reduced to that many bits. From 32 bits on
@@ -49,6 +51,32 @@ pub fn onward(number: u32, distance: u32, long: bool) -> u32
     ensures { λ r. ⌜ r ≡ (number + distance) % «modulusOf» long ⌝ }
 {
     std::num::wrapping_add_u32(number, distance) & (modulus(long) - 1)
+}
+
+// How one X2-U number lies to another.
+pub enum Side {
+    Same,
+    Ahead,
+    Behind,
+    Opposite, // exactly half the circle away
+}
+
+// How a number lies as seen from another.
+pub fn lies(from: u32, number: u32, long: bool) -> Side
+    ensures { λ r. ⌜ sideIn r ≡ «liesOf» («modulusOf» long) from number ⌝ }
+{
+    let way = distance(from, number, long);
+    let halfway = half(long);
+    if way < halfway {
+        if way == 0 {
+            return Side::Same;
+        }
+        return Side::Ahead;
+    }
+    if way == halfway {
+        return Side::Opposite;
+    }
+    Side::Behind
 }
 
 // ---- L, and what follows from it

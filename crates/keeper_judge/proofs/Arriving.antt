@@ -1,19 +1,20 @@
 -- The machine's judgement of an arrival, from the tests that the engine makes in the same order.
 -- Assumes nothing.
-use mathlib.Core.Path.{_≡_, sym, _∙_, ap}
+use mathlib.Core.Path.{_≡_, sym, _∙_, ap, ap₂}
 use mathlib.Core.Bool.{true, false}
 use mathlib.Core.List.{List}
-use Prim.Native.Nat.{ℕ, suc, _+_, _/_, _≤_, _<_}
+use Prim.Native.Nat.{ℕ, _+_, _/_, _≤_, _<_}
 use lib.Dec.{ltb, leb}
 use lib.ListN.{length, length-map}
 use borrow.Author.Tests.{lt-ltb, le-ltb, lt-leb, le-leb}
 use Rattle.circle.specs.Circle.{forward}
+use Rattle.circle.specs.Sides.{Side, lies}
 use Rattle.circle.specs.Lengths.{pdcps, lengthIn}
 use Rattle.basics.specs.Basics.{if_then_else_}
 use Rattle.frame_layout.specs.Frames.{Range, startsOf}
 use Rattle.bearer.specs.Bearer.{After, refusing, answering, mostRuns, mostRecords}
-use Rattle.bearer.specs.Losses.{fromOn, bearsBefore, placeIn, floorBehind, sizeOf}
-use Rattle.bearer.specs.Keeper.{Keeper, Record, numbersOf, runsAfter, givenUp, limitOf, placeOf, baseArrived, arrived, arriveAt, arrive}
+use Rattle.bearer.specs.Losses.{aheadOf, bearsBefore, placeIn, floorBehind, sizeOf}
+use Rattle.bearer.specs.Keeper.{Keeper, Record, numbersOf, runsAfter, givenUp, limitOf, baseArrived, arrived, arriveAt, arriveOn, arriveBy, arrive}
 use Rattle.bearer.proofs.Lists.Mapped.{front-within}
 use Rattle.keeper_state.specs.declared.Words.{Words}
 use Rattle.keeper_judge.specs.declared.Losses.{Losses}
@@ -21,7 +22,7 @@ use Rattle.keeper_state.specs.State.{isOpen, modulusIn, stateOf}
 use Rattle.keeper_judge.specs.Judgements.{Losing, AcceptsArrival}
 use Rattle.keeper_judge.proofs.Given.{same-outcome}
 
--- ---- 9, 10, 10, 11
+-- ---- 9, 10, 10, 18, 11
 
 module _ (w : Words) (runs : List Range) (records : List Record) (n p : ℕ) where
   abbrev state : Keeper
@@ -38,27 +39,21 @@ module _ (w : Words) (runs : List Range) (records : List Record) (n p : ℕ) whe
       pub bad-pdcp : pdcps (lengthIn (w .bits)) ≤ p → arrive state n p ≡ refusing 10 state
       bad-pdcp h = rw (opened, lt-ltb n (modulusIn w) good, le-ltb p (pdcps (lengthIn (w .bits))) h)
 
-      -- by how far it is forward from base
-      module _ (fits : p < pdcps (lengthIn (w .bits))) (d : ℕ) (far : d ≡ forward (modulusIn w) (w .base) n) where
-        pub late : modulusIn w / 2 ≤ d → arrive state n p ≡ refusing 11 state
-        late h =
-            rw (opened, lt-ltb n (modulusIn w) good, lt-ltb p (pdcps (lengthIn (w .bits))) fits, ← far, le-leb (modulusIn w / 2) d h)
-
-        pub on-time : d < modulusIn w / 2 → arrive state n p ≡ arriveAt state n p (placeOf state d) d
-        on-time h =
-            rw (opened, lt-ltb n (modulusIn w) good, lt-ltb p (pdcps (lengthIn (w .bits))) fits, ← far, lt-leb (modulusIn w / 2) d h)
+      -- by how it lies to base
+      pub by-side : p < pdcps (lengthIn (w .bits)) → (s : Side) → lies (modulusIn w) (w .base) n ≡ s → arrive state n p ≡ arriveBy state n p s
+      by-side fits s e = rw (opened, lt-ltb n (modulusIn w) good, lt-ltb p (pdcps (lengthIn (w .bits))) fits, e)
 
 -- ---- 12, 13, 14, 15
 
--- by the numbers held and the starts listed, and the place of the number d forward from base
+-- by the numbers held and the starts listed, and the place of a number d forward from base
 module _ (w : Words) (runs : List Range) (records : List Record) (ns ss : List ℕ) (en : numbersOf records ≡ ns) (es : startsOf runs ≡ ss) (n p d place : ℕ)
-    (place-is : place ≡ placeIn (modulusIn w) (w .base) ns d) where
+    (place-is : place ≡ placeIn (modulusIn w) ns n) (far : d ≡ forward (modulusIn w) (w .base) n) where
   -- how the machine judges it
   abbrev judged : After Keeper ℕ
-  judged = arriveAt (stateOf w runs records) n p (placeOf (stateOf w runs records) d) d
+  judged = arriveOn (stateOf w runs records) n p
 
   at-place : judged ≡ arriveAt (stateOf w runs records) n p place d
-  at-place = ap (λ (i : ℕ). arriveAt (stateOf w runs records) n p i d) (ap (λ (ns : List ℕ). placeIn (modulusIn w) (w .base) ns d) en ∙ sym place-is)
+  at-place = ap₂ (arriveAt (stateOf w runs records) n p) (ap (λ (ns : List ℕ). placeIn (modulusIn w) ns n) en ∙ sym place-is) (sym far)
 
   pub again : bearsBefore ns n place ≡ true → judged ≡ refusing 12 (stateOf w runs records)
   again h = at-place ∙ rw (en, h)
@@ -92,7 +87,7 @@ module _ (w : Words) (runs : List Range) (records : List Record) (ns ss : List �
           pub accepted : length ns < mostRecords → (base : ℕ) → base ≡ baseArrived (modulusIn w) (w .base) ns place d
               → AcceptsArrival place (record { base = base; lost = lost }) (stateOf w runs records) n p judged
           accepted h base e = record {
-            within = rw (place-is, held-count) (front-within (fromOn (modulusIn w) (w .base) (suc d)) ns);
+            within = rw (place-is, held-count) (front-within (aheadOf (modulusIn w) n) ns);
             room = rw held-count h;
             loses = record { losing = rw en losing; few = few };
             outcome =

@@ -10,7 +10,7 @@ use Rattle.circle.specs.Lengths.{modulusOf}
 use Rattle.frame_layout.specs.Frames.{Range, endsOf}
 use Rattle.bearer.specs.Bearer.{After, refusing, answering, mostRuns, mostRecords}
 use Rattle.bearer.specs.Losses.{fromBase, lostBelow, sizeOf, newRuns, adjoins, withRuns}
-use Rattle.bearer.specs.Keeper.{Keeper, newRecord, recordsWith, held, placeOf, runsAfter, arriveAt, arrive, expire, _with-base_, _with-runs_, _with-records_}
+use Rattle.bearer.specs.Keeper.{Keeper, newRecord, recordsWith, held, runsAfter, arriveOn, arrive, expire, _with-base_, _with-runs_, _with-records_}
 use Rattle.keeper_judge.specs.declared.Losses.{Losses}
 use Rattle.keeper_judge.specs.declared.Plan.{Plan}
 use Rattle.keeper_judge.specs.declared.Arrival as A
@@ -69,9 +69,9 @@ ArrivalIs (A.the-variants.Accepted place plan) k n p o = AcceptsArrival place pl
 abbrev pub JudgesArrival : A.Arrival → Keeper → ℕ → ℕ → Type 0
 JudgesArrival r k n p = ArrivalIs r k n p (arrive k n p)
 
--- ... that of a number so far forward from base
-abbrev pub JudgesPlace : A.Arrival → Keeper → ℕ → ℕ → ℕ → Type 0
-JudgesPlace r k n p d = ArrivalIs r k n p (arriveAt k n p (placeOf k d) d)
+-- ... that of a number that doesn't lie before base
+abbrev pub JudgesPlace : A.Arrival → Keeper → ℕ → ℕ → Type 0
+JudgesPlace r k n p = ArrivalIs r k n p (arriveOn k n p)
 
 -- ---- expiry
 

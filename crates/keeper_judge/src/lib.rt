@@ -11,6 +11,7 @@ ghost use Rattle.bearer.specs.Losses.{floorBehind, bearsBefore, offsets, raised
 ghost use Rattle.bearer.specs.Keeper.{Record, numbersOf, limitOf, baseArrived};
 ghost use Rattle.keeper_state.specs.State.{stateOf, stateIn, Fronts};
 ghost use Rattle.keeper_judge.specs.Judgements.{adjoinsLast, noneLost, Losing, Reaches, JudgesArrival, JudgesPlace, JudgesExpiry};
+use circle::Side;
 use keeper_state::MOST_RECORDS;
 use keeper_state::MOST_RUNS;
 use keeper_state::RecordArray;
@@ -98,7 +99,7 @@ pub fn judge_expiry(
 
 // ---- arrival
 
-// An arrival, by the numbers held and the starts and ends listed: 9, 10, 11, or by its place.
+// An arrival, by the numbers held and the starts and ends listed: 9, 10, 18, 11, or by its place.
 fn judge_number(
     w: Words,
     numbers: &[u32],
@@ -120,32 +121,28 @@ fn judge_number(
     if circle::pdcps(w.bits) <= pdcp {
         return Arrival::Refused(refusal::NUMBER);
     }
-    let distance = circle::distance(w.base, number, long);
-    if circle::half(long) <= distance {
-        return Arrival::Refused(refusal::LATE);
+    let side = circle::lies(w.base, number, long);
+    match side {
+        Side::Opposite => return Arrival::Refused(refusal::OPPOSITE),
+        Side::Behind => return Arrival::Refused(refusal::LATE),
+        Side::Same => {}
+        Side::Ahead => {}
     }
-    judge_place(w, numbers, starts, ends, number, distance)
+    judge_place(w, numbers, starts, ends, number)
 }
 
-// An arrival at a distance from base, by its place among the numbers held: 12, 13, 14, 15, or what it changes.
-fn judge_place(
-    w: Words,
-    numbers: &[u32],
-    starts: &[u32],
-    ends: &[u32],
-    number: u32,
-    distance: u32,
-) -> Arrival
-    requires { ⌜ distance < 2 ^ 24 ⌝ }
+// An arrival that doesn't lie before base, by its place among the numbers held: 12, 13, 14, 15, or what it changes.
+fn judge_place(w: Words, numbers: &[u32], starts: &[u32], ends: &[u32], number: u32) -> Arrival
     ensures { λ r. ⌜ ((runs : List Range) (records : List Record) → numbersOf records ≡ now (numbers .entry) → startsOf runs ≡ now (starts .entry) → endsOf runs ≡ now (ends .entry)
-        → (pdcp : ℕ) → JudgesPlace r (stateOf w runs records) number pdcp distance) ⌝ }
+        → (pdcp : ℕ) → JudgesPlace r (stateOf w runs records) number pdcp) ⌝ }
 {
     let base = w.base;
     let long = circle::is_long(w.bits);
-    let place = keeper_loss::front(numbers, base, long, distance + 1);
+    let place = keeper_loss::front(numbers, number, long, false);
     if has_record(numbers, place, number) {
         return Arrival::Refused(refusal::AGAIN);
     }
+    let distance = circle::distance(base, number, long);
     if circle::half(long) <= floor(numbers, starts, base, long) + distance {
         return Arrival::Refused(refusal::SPAN);
     }
@@ -232,7 +229,7 @@ fn lost_below(numbers: &[u32], ends: &[u32], base: u32, long: bool, limit: u32) 
     if limit == 0 {
         return none_lost(numbers.len(), limit, listed);
     }
-    let from = keeper_loss::front(numbers, base, long, 0);
+    let from = keeper_loss::front(numbers, base, long, true);
     let up = keeper_loss::given_up(&numbers[from..], base, long, limit);
     let gaps = up.gaps;
     if gaps == 0 {

@@ -13,16 +13,13 @@ use borrow.Author.Tests.{eq-eqb, ne-eqb}
 use Rattle.circle.specs.Circle.{forward, forward-below}
 use Rattle.basics.specs.Basics.{if_then_else_, all}
 use Rattle.basics.proofs.Choices.{and-no}
-use Rattle.bearer.specs.Losses.{beforeBase, behind, frontOf, firstBehind, topOf}
+use Rattle.bearer.specs.Losses.{before, farBehind, farPast, frontOf, firstBehind, topOf}
 use Rattle.bearer.specs.Keeper.{indexOf}
+use Rattle.bearer.proofs.Lists.Mapped.{front-none}
 
 -- ---- the longest end all of which has a property
 
 module _ (p : ℕ → Bool) where
-  pub front-none : (xs : List ℕ) → all p xs ≡ true → frontOf p xs ≡ 0
-  front-none [] h = refl
-  front-none (x ∷ xs) h = rw h
-
   one-not : (xs : List ℕ) (i : ℕ) → i < length xs → p (getD xs i 0) ≡ false → all p xs ≡ false
   one-not [] i l h = absurd (omega arith)
   one-not (x ∷ xs) zero l h = rw h
@@ -31,7 +28,7 @@ module _ (p : ℕ → Bool) where
   -- behind the last element that hasn't it
   pub front-at : (xs : List ℕ) (i : ℕ) → i < length xs → p (getD xs i 0) ≡ false → all p (drop (suc i) xs) ≡ true → frontOf p xs ≡ suc i
   front-at [] i l h a = absurd (omega arith)
-  front-at (x ∷ xs) zero l h a = rw h (ap suc (front-none xs a))
+  front-at (x ∷ xs) zero l h a = rw h (ap suc (front-none p xs a))
   front-at (x ∷ xs) (suc i) l h a = rw (one-not (x ∷ xs) (suc i) l h) (ap suc (front-at xs i (omega arith) h a))
 
   -- one element more that has it
@@ -48,7 +45,7 @@ module _ (M base : ℕ) where
   first-none [] e = refl
   first-none (n ∷ ns) e = absurd (omega arith)
 
-  pub first-here : (ns : List ℕ) → 0 < length ns → firstBehind M base ns ≡ behind M base (getD ns 0 0)
+  pub first-here : (ns : List ℕ) → 0 < length ns → firstBehind M base ns ≡ farBehind M base (getD ns 0 0)
   first-here [] h = absurd (omega arith)
   first-here (n ∷ ns) h = refl
 
@@ -57,7 +54,7 @@ module _ (M base : ℕ) where
   top-none (n ∷ ns) e = absurd (omega arith)
 
   pub top-last : (ns : List ℕ) (i : ℕ) → i + 1 ≡ length ns
-      → topOf M base ns ≡ (if beforeBase M base (getD ns i 0) then 0 else forward M base (getD ns i 0))
+      → topOf M base ns ≡ farPast M base (getD ns i 0)
   top-last [] i e = absurd (omega arith)
   top-last (n ∷ []) i e = let z : i ≡ 0 = omega arith in rw z
   top-last (n ∷ m ∷ ns) zero e = absurd (omega arith)
@@ -77,7 +74,7 @@ module _ (n : ℕ) (ns : List ℕ) (i : ℕ) (l : i < length ns) where
 module _ (M base : ℕ) (pos : 0 < M) where
   pub first-below : (ns : List ℕ) → firstBehind M base ns < M
   first-below [] = pos
-  first-below (n ∷ ns) = by-test (beforeBase M base n)
+  first-below (n ∷ ns) = by-test (before M base n)
     where
       by-test : (t : Bool) → (if t then forward M n base else 0) < M
       by-test true = forward-below M pos n base
@@ -85,7 +82,7 @@ module _ (M base : ℕ) (pos : 0 < M) where
 
   pub top-below : (ns : List ℕ) → topOf M base ns < M
   top-below [] = pos
-  top-below (n ∷ []) = by-test (beforeBase M base n)
+  top-below (n ∷ []) = by-test (before M base n)
     where
       by-test : (t : Bool) → (if t then 0 else forward M base n) < M
       by-test true = pos

@@ -6,9 +6,11 @@ ghost use lib.ListN.{length, set};
 ghost use lib.Seq.{sets};
 ghost use Rattle.circle.specs.Lengths.{modulus as «modulusOf»};
 ghost use Rattle.frame_layout.specs.Frames.{startsOf, endsOf};
-ghost use Rattle.bearer.specs.Losses.{beforeBase, behind as «behindOf», fromOn, frontOf, firstBehind, topOf, offsets, outside as «outsideOf», gap, gaps as «gapsOf», lowest as «lowestOf», runsOf};
+ghost use Rattle.bearer.specs.Losses.{before, farBehind, frontOf, firstBehind, topOf, offsets, outside as «outsideOf», gap, gaps as «gapsOf», lowest as «lowestOf», runsOf};
 ghost use Rattle.bearer.specs.Keeper.{indexOf};
 ghost use Rattle.keeper_loss.specs.Tally.{told, tallied, raisedBy, gapEnd, pastOf};
+ghost use Rattle.keeper_loss.specs.Fronts.{aheadOr};
+use circle::Side;
 
 // What is given up: how many gaps and numbers, and how far the first gap is from base (0 for none).
 pub struct GivenUp {
@@ -19,16 +21,29 @@ pub struct GivenUp {
 
 // ---- where a number lies
 
-// Whether a number lies before base: half the circle forward from it, or more.
-pub fn is_before(base: u32, number: u32, long: bool) -> bool
-    ensures { λ r. ⌜ r ≡ beforeBase («modulusOf» long) base number ⌝ }
+// Whether a number lies ahead of another, or is the same, where that counts too.
+fn is_ahead(from: u32, number: u32, long: bool, same: bool) -> bool
+    ensures { λ r. ⌜ r ≡ aheadOr same («modulusOf» long) from number ⌝ }
 {
-    circle::half(long) <= circle::distance(base, number, long)
+    let side = circle::lies(from, number, long);
+    match side {
+        Side::Same => same,
+        Side::Ahead => true,
+        Side::Behind => false,
+        Side::Opposite => false,
+    }
+}
+
+// Whether a number lies before another: neither ahead of it nor the same, so behind it or opposite.
+pub fn is_before(from: u32, number: u32, long: bool) -> bool
+    ensures { λ r. ⌜ r ≡ before («modulusOf» long) from number ⌝ }
+{
+    !is_ahead(from, number, long, true)
 }
 
 // How far a number that lies before base is behind it; 0 for any other.
 fn behind(base: u32, number: u32, long: bool) -> u32
-    ensures { λ r. ⌜ r ≡ «behindOf» («modulusOf» long) base number ⌝ }
+    ensures { λ r. ⌜ r ≡ farBehind («modulusOf» long) base number ⌝ }
 {
     if is_before(base, number, long) {
         return circle::distance(number, base, long);
@@ -36,26 +51,16 @@ fn behind(base: u32, number: u32, long: bool) -> u32
     0
 }
 
-// Whether a number lies `least` or more forward from base, and not before it.
-fn from_on(base: u32, number: u32, long: bool, least: u32) -> bool
-    ensures { λ r. ⌜ r ≡ fromOn («modulusOf» long) base least number ⌝ }
-{
-    if circle::distance(base, number, long) < least {
-        return false;
-    }
-    !is_before(base, number, long)
-}
-
 // ---- the ends of a list
 
-// How many numbers stand in front of the last ones that all lie `least` or more forward from base. From the back, so that
-// what stands in front of them is not looked at.
-pub fn front(numbers: &[u32], base: u32, long: bool, least: u32) -> usize
-    ensures { λ r. ⌜ r ≡ frontOf (fromOn («modulusOf» long) base least) (now (numbers .entry)) ⌝ }
+// How many numbers stand in front of the last ones that all lie ahead of another, or are the same, where that counts too. From
+// the back, so that what stands in front of them is not looked at.
+pub fn front(numbers: &[u32], from: u32, long: bool, same: bool) -> usize
+    ensures { λ r. ⌜ r ≡ frontOf (aheadOr same («modulusOf» long) from) (now (numbers .entry)) ⌝ }
 {
     let mut i = numbers.len();
     while 0 < i {
-        if !from_on(base, numbers[i - 1], long, least) {
+        if !is_ahead(from, numbers[i - 1], long, same) {
             return i;
         }
         i -= 1;

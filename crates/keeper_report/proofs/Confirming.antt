@@ -9,7 +9,7 @@ use lib.ListN.{length, getD, length-map}
 use borrow.Author.Tests.{lt-ltb, le-ltb, lt-leb, le-leb}
 use Rattle.frame_layout.specs.Frames.{Range}
 use Rattle.bearer.specs.Bearer.{refusing}
-use Rattle.bearer.specs.Losses.{beforeBase}
+use Rattle.bearer.specs.Losses.{before}
 use Rattle.bearer.specs.Keeper.{Keeper, Record, noRecord, numbersOf, indexOf, confirmAt, confirm}
 use Rattle.keeper_state.specs.declared.Words.{Words}
 use Rattle.keeper_state.specs.State.{isOpen, modulusIn, stateOf}
@@ -35,10 +35,10 @@ module _ (w : Words) (runs : List Range) (records : List Record) (n : ℕ) where
         at-place : confirm state n ≡ confirmAt state n at
         at-place = rw (opened, lt-ltb n (modulusIn w) good, seen, ← at-is, lt-leb (length ns) at found)
 
-        pub not-before : beforeBase (modulusIn w) (w .base) n ≡ false → confirm state n ≡ refusing 16 state
+        pub not-before : before (modulusIn w) (w .base) n ≡ false → confirm state n ≡ refusing 16 state
         not-before h = at-place ∙ rw h
 
-        module _ (past : beforeBase (modulusIn w) (w .base) n ≡ true) where
+        module _ (past : before (modulusIn w) (w .base) n ≡ true) where
           pub marked-already : getD records at noRecord .confirmed ≡ true → confirm state n ≡ refusing 16 state
           marked-already h = at-place ∙ rw (past, h)
 

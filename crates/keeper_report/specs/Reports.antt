@@ -3,11 +3,12 @@
 use mathlib.Core.Path.{_≡_}
 use mathlib.Core.Bool.{Bool}
 use mathlib.Core.List.{List}
-use Prim.Native.Nat.{ℕ, _<_}
+use Prim.Native.Nat.{ℕ, zero, suc, _<_}
 use lib.ListN.{length, getD, set}
 use Rattle.frame_layout.specs.Frames.{writeStatus}
 use Rattle.bearer.specs.Bearer.{refusing, answering}
-use Rattle.bearer.specs.Keeper.{Keeper, noRecord, delivered, confirm, letGo, highestOf, unreported, statusNow, reportedAs, status, _with-records_}
+use Rattle.bearer.specs.Losses.{goesBefore}
+use Rattle.bearer.specs.Keeper.{Keeper, Record, noRecord, delivered, confirm, letGo, highestOf, unreported, statusNow, reportedAs, status, _with-records_}
 use Rattle.keeper_report.specs.declared.Gone.{Gone}
 use Rattle.keeper_report.specs.declared.Found as F
 use Rattle.keeper_report.specs.declared.Report as R
@@ -25,6 +26,15 @@ JudgesConfirm (F.the-variants.Refused m) k n = confirm k n ≡ refusing m k
 JudgesConfirm (F.the-variants.At at) k n = AcceptsConfirm at k n
 
 -- ---- status
+
+-- a record that may go, by the starts of the runs left out
+abbrev pub goes : ℕ → List ℕ → Record → Bool
+goes M ss r = goesBefore M ss (r .number) (r .confirmed)
+
+-- the highest that is reported when so many go, by the PDCP numbers of all
+abbrev pub highestAt : ℕ → List ℕ → ℕ → ℕ
+highestAt reported ps zero = reported
+highestAt reported ps (suc i) = getD ps i 0
 
 -- how many records a status lets go, and the highest that is reported then
 abbrev pub goneOf : Keeper → Gone

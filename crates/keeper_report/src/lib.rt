@@ -2,15 +2,16 @@
 // (the crate keeper_state). specs/Reports.antt says what a judgement means.
 ghost use mathlib.Core.Path.{_≡_};
 ghost use mathlib.Core.List.{List};
-ghost use Prim.Native.Nat.{ℕ};
+ghost use Prim.Native.Nat.{ℕ, _≤_};
 ghost use lib.Dec.{ltb};
 ghost use lib.ListN.{length, drop};
 ghost use Rattle.basics.specs.Basics.{isSet, _and_};
 ghost use Rattle.circle.specs.Lengths.{modulus};
 ghost use Rattle.frame_layout.specs.Frames.{Range, mostRanges, startsOf};
 ghost use Rattle.bearer.specs.Losses.{goesBefore};
+ghost use Rattle.bearer.specs.Keeper.{runWith};
 ghost use Rattle.keeper_state.specs.State.{recordsOf, stateOf, stateIn};
-ghost use Rattle.keeper_report.specs.Reports.{JudgesConfirm, JudgesStatus, goneOf};
+ghost use Rattle.keeper_report.specs.Reports.{JudgesConfirm, JudgesStatus, goneOf, goes, highestAt};
 use frame_layout::MOST_RANGES;
 use keeper_state::RecordArray;
 use keeper_state::RunArray;
@@ -115,29 +116,44 @@ fn let_go(w: Words, numbers: &[u32], pdcps: &[u32], marks: &[u32], starts: &[u32
     ensures { λ r. ⌜ ((runs : List Range) → startsOf runs ≡ now (starts .entry)
         → r ≡ goneOf (stateOf w runs (recordsOf (now (numbers .entry)) (now (pdcps .entry)) (now (marks .entry))))) ⌝ }
 {
-    let long = circle::is_long(w.bits);
-    let base = w.base;
-    let mut highest = w.reported;
-    let mut i = 0;
-    while i < numbers.len() {
-        if !may_go(starts, base, long, numbers[i], marks[i]) {
-            return Gone {
-                count: i,
-                highest: highest,
-            };
-        }
-        highest = pdcps[i];
-        i += 1;
-    }
+    let count = going(numbers, marks, starts, circle::is_long(w.bits));
+    let highest = last_of(pdcps, count, w.reported);
     Gone {
-        count: i,
+        count: count,
         highest: highest,
     }
 }
 
+// How many records go. Their PDCP numbers are not looked at.
+fn going(numbers: &[u32], marks: &[u32], starts: &[u32], long: bool) -> usize
+    requires { ⌜ length (now numbers) ≡ length (now marks) ⌝ }
+    ensures { λ r. ⌜ (r ≤ length (now (numbers .entry))) × ((ps : List ℕ) → length (now (numbers .entry)) ≡ length ps
+        → r ≡ runWith (goes (modulus long) (drop mostRanges (now (starts .entry)))) (recordsOf (now (numbers .entry)) ps (now (marks .entry)))) ⌝ }
+{
+    let mut i = 0;
+    while i < numbers.len() {
+        if !may_go(starts, long, numbers[i], marks[i]) {
+            return i;
+        }
+        i += 1;
+    }
+    i
+}
+
+// The last of so many numbers at the front; another for none.
+fn last_of(numbers: &[u32], count: usize, other: u32) -> u32
+    requires { ⌜ count ≤ length (now numbers) ⌝ }
+    ensures { λ r. ⌜ r ≡ highestAt other (now (numbers .entry)) count ⌝ }
+{
+    if count == 0 {
+        return other;
+    }
+    numbers[count - 1]
+}
+
 // Whether a record may go.
-fn may_go(starts: &[u32], base: u32, long: bool, number: u32, mark: u32) -> bool
-    ensures { λ r. ⌜ r ≡ goesBefore (modulus long) base (drop mostRanges (now (starts .entry))) number (isSet mark) ⌝ }
+fn may_go(starts: &[u32], long: bool, number: u32, mark: u32) -> bool
+    ensures { λ r. ⌜ r ≡ goesBefore (modulus long) (drop mostRanges (now (starts .entry))) number (isSet mark) ⌝ }
 {
     if mark == 0 {
         return false;
@@ -145,5 +161,5 @@ fn may_go(starts: &[u32], base: u32, long: bool, number: u32, mark: u32) -> bool
     if starts.len() <= MOST_RANGES {
         return true;
     }
-    circle::distance(starts[MOST_RANGES], base, long) < circle::distance(number, base, long)
+    keeper_loss::is_before(starts[MOST_RANGES], number, long)
 }

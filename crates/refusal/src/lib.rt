@@ -22,7 +22,7 @@ pub const CLOSED: u32 = 9; // this end is closed
 pub const NUMBER: u32 = 10; // an X2-U number is M or more, or a PDCP number 2^L or more
 
 // The secondary.
-pub const LATE: u32 = 11; // forward from base to the number is M/2 or more
+pub const LATE: u32 = 11; // forward from base to the number is more than M/2
 
 pub const AGAIN: u32 = 12; // the number already has a record
 
@@ -35,6 +35,8 @@ pub const RECORDS: u32 = 15; // 512 records are held
 pub const NO_RECORD: u32 = 16; // no record of that number, or not before base, or already confirmed
 
 pub const NO_GAP: u32 = 17; // no open number below the highest accepted
+
+pub const OPPOSITE: u32 = 18; // forward from base to the number is exactly M/2
 
 pub const ROOM: u32 = 20; // buffer shorter than the frame
 

@@ -20,6 +20,9 @@
 //! * (iii) after it accepts frame k, the packets freed so far are exactly
 //!   those i in C(k) for which every j < i is in C(k) or in R(k).
 //!
+//! A further copy of a packet is answered with 12 from the lowest open packet
+//! on, with 18 exactly M/2 before it, with 11 elsewhere.
+//!
 //! "Declared lost" follows document 01's sentences on packet indexes; nothing
 //! here knows how the library keeps its state.
 
@@ -139,8 +142,14 @@ impl Watch {
     /// Whether a packet may still arrive within E2.
     #[must_use]
     pub fn may_arrive(&self, packet: usize) -> bool {
-        let newer = (self.packets.len() - 1 - packet) as u64;
-        newer < self.opening.numbers() / 2
+        self.packets.len() - 1 - packet < self.half()
+    }
+
+    /// The oldest packet that may still arrive within E2.
+    #[must_use]
+    pub fn oldest_copy(&self) -> Option<usize> {
+        let sent = self.packets.len();
+        (sent > 0).then_some(sent.saturating_sub(self.half()))
     }
 
     /// The `count` packets that were declared lost last, of those in no frame
@@ -179,10 +188,10 @@ impl Watch {
             return Ok(());
         }
         if self.packets[packet].fate != Fate::Open {
-            let stray = matches!(answer, Err(Refusal::Late | Refusal::Repeated));
+            let stray = self.stray(packet);
             check!(
-                stray,
-                "a further copy of packet {packet} was answered {answer:?}"
+                answer == Err(stray),
+                "a further copy of packet {packet} was answered {answer:?}, not {stray:?}"
             );
             return Ok(());
         }
@@ -324,6 +333,22 @@ impl Watch {
             self.tally.taken += 1;
         }
         Ok(())
+    }
+
+    /// M/2.
+    fn half(&self) -> usize {
+        self.opening.numbers() as usize / 2
+    }
+
+    /// What a copy of a packet that is received or lost is refused with.
+    fn stray(&self, packet: usize) -> Refusal {
+        if packet >= self.base {
+            Refusal::Repeated
+        } else if self.base - packet == self.half() {
+            Refusal::Opposite
+        } else {
+            Refusal::Late
+        }
     }
 
     /// Declares lost each open packet below `mark`, as `answer` should say.

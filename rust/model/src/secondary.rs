@@ -71,7 +71,10 @@ impl Secondary {
             return Err(Refusal::NumberTooLarge);
         }
         let index = self.opening.index_from(self.base, number);
-        if index - self.base >= half {
+        if index - self.base == half {
+            return Err(Refusal::Opposite);
+        }
+        if index - self.base > half {
             return Err(Refusal::Late);
         }
         if self.fate(index) != Fate::Open {

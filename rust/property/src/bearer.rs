@@ -47,6 +47,8 @@ pub enum Step {
     },
     /// Some packet of those sent arrives, for the first time or again.
     ArriveSome(Index),
+    /// The oldest packet that may still arrive does.
+    ArriveOldest,
     /// Out of the circle, so refused before it is anything.
     ArriveOutside(u32),
     /// The gaps are given up.
@@ -87,6 +89,7 @@ pub fn steps() -> impl Strategy<Value = Step> {
             .prop_map(|(dropped, period, count)| Step::Arrive { dropped, period, count }),
         3 => Just(Step::Arrive { dropped: 1, period: 2, count: 400 }),
         4 => any::<Index>().prop_map(Step::ArriveSome),
+        1 => Just(Step::ArriveOldest),
         1 => any::<u32>().prop_map(Step::ArriveOutside),
         3 => Just(Step::Expire),
         8 => (prop_oneof![2 => Just(1_000_usize), 1 => 1_usize..60], many)
@@ -144,17 +147,10 @@ impl Bearer {
             } => self.arrive(*dropped, *period, *count)?,
             Step::ArriveSome(index) => {
                 let sent = self.pair.watch.sent_count();
-                if sent > 0 && self.pair.watch.may_arrive(index.index(sent)) {
-                    let _ = self.arrive_packet(index.index(sent))?;
-                }
+                self.arrive_again((sent > 0).then(|| index.index(sent)))?;
             }
-            Step::ArriveOutside(number) => {
-                let outside = number | 1 << 24;
-                self.trace.call(&Call::Arrive([outside, 0]), Event::Refused);
-                if self.pair.keeper.arrive(outside, 0).is_ok() {
-                    return Err(format!("{outside} was accepted"));
-                }
-            }
+            Step::ArriveOldest => self.arrive_again(self.pair.watch.oldest_copy())?,
+            Step::ArriveOutside(number) => self.arrive_outside(number | 1 << 24)?,
             Step::Expire => {
                 self.trace.call(&Call::Expire, Event::Expired);
                 let _ = self.pair.expire()?;
@@ -162,27 +158,45 @@ impl Bearer {
             Step::Confirm { passed, count } => self.confirm_some(*passed, *count)?,
             Step::ConfirmAny(number) => self.confirm(u32::from(*number))?,
             Step::Status { is_final, room } => self.status(*is_final, *room)?,
-            Step::Deliver(count) => {
-                for _ in 0..*count {
-                    self.deliver()?;
-                }
-            }
-            Step::Junk(octets) => {
-                if self.pair.ledger.clone().accept(octets).is_err() {
-                    self.trace.call(&Call::Accept(octets), Event::Refused);
-                    let _ = self.pair.ledger.accept(octets);
-                }
-            }
-            Step::Take(count) => {
-                for _ in 0..*count {
-                    self.trace.call(&Call::Take, Event::Taken);
-                    let _ = self.pair.take()?;
-                }
-            }
+            Step::Deliver(count) => self.deliver(*count)?,
+            Step::Junk(octets) => self.junk(octets),
+            Step::Take(count) => self.take(*count)?,
         }
         self.trace.call(&Call::Keeper, Event::Keeper);
         self.trace.call(&Call::Ledger, Event::Ledger);
         self.pair.check()
+    }
+
+    /// Sends so many packets, batch by batch: each arrives, is confirmed,
+    /// reported and freed.
+    pub fn flow(&mut self, packets: usize) -> Result<(), String> {
+        let end = self.pair.watch.sent_count() + packets;
+        while self.pair.watch.sent_count() < end {
+            let count = (end - self.pair.watch.sent_count()).min(256);
+            for step in [
+                Step::Send {
+                    skip: 0,
+                    count: count as u32,
+                },
+                Step::Arrive {
+                    dropped: 0,
+                    period: 1,
+                    count,
+                },
+                Step::Confirm {
+                    passed: count + 1,
+                    count,
+                },
+                Step::Status {
+                    is_final: false,
+                    room: LONGEST,
+                },
+                Step::Deliver(1),
+            ] {
+                self.make(&step)?;
+            }
+        }
+        Ok(())
     }
 
     fn send(&mut self, pdcp: u32) -> Result<(), String> {
@@ -196,6 +210,24 @@ impl Bearer {
         self.trace
             .call(&Call::Arrive([number, pdcp]), Event::Arrived(packet));
         self.pair.arrive(packet)
+    }
+
+    /// A copy of `packet` arrives, if it still may.
+    fn arrive_again(&mut self, packet: Option<usize>) -> Result<(), String> {
+        if let Some(packet) = packet
+            && self.pair.watch.may_arrive(packet)
+        {
+            let _ = self.arrive_packet(packet)?;
+        }
+        Ok(())
+    }
+
+    fn arrive_outside(&mut self, number: u32) -> Result<(), String> {
+        self.trace.call(&Call::Arrive([number, 0]), Event::Refused);
+        if self.pair.keeper.arrive(number, 0).is_ok() {
+            return Err(format!("{number} was accepted"));
+        }
+        Ok(())
     }
 
     /// The next packets arrive, but for `dropped` of every `period`.
@@ -236,15 +268,33 @@ impl Bearer {
         self.pair.status([1, 2], is_final, room).map(|_| ())
     }
 
-    fn deliver(&mut self) -> Result<(), String> {
-        let mut room = [0; LONGEST];
-        let Some(octets) = self.pair.next_frame() else {
-            return Ok(());
-        };
-        let frame = &mut room[..octets.len()];
-        frame.copy_from_slice(octets);
-        self.trace.call(&Call::Accept(frame), Event::Accepted);
-        self.trace.call(&Call::Ledger, Event::Ledger);
-        self.pair.deliver().transpose().map(|_| ())
+    fn deliver(&mut self, count: usize) -> Result<(), String> {
+        for _ in 0..count {
+            let mut room = [0; LONGEST];
+            let Some(octets) = self.pair.next_frame() else {
+                return Ok(());
+            };
+            let frame = &mut room[..octets.len()];
+            frame.copy_from_slice(octets);
+            self.trace.call(&Call::Accept(frame), Event::Accepted);
+            self.trace.call(&Call::Ledger, Event::Ledger);
+            let _ = self.pair.deliver().transpose()?;
+        }
+        Ok(())
+    }
+
+    fn take(&mut self, count: usize) -> Result<(), String> {
+        for _ in 0..count {
+            self.trace.call(&Call::Take, Event::Taken);
+            let _ = self.pair.take()?;
+        }
+        Ok(())
+    }
+
+    fn junk(&mut self, octets: &[u8]) {
+        if self.pair.ledger.clone().accept(octets).is_err() {
+            self.trace.call(&Call::Accept(octets), Event::Refused);
+            let _ = self.pair.ledger.accept(octets);
+        }
     }
 }

@@ -11,7 +11,7 @@ use x2u::frame::LONGEST;
 use x2u::{Answer, Keeper, Refusal};
 
 /// The keeper's refusals.
-pub const REFUSALS: [u8; 12] = [7, 9, 10, 11, 12, 13, 14, 15, 16, 17, 20, 22];
+pub const REFUSALS: [u8; 13] = [7, 9, 10, 11, 12, 13, 14, 15, 16, 17, 18, 20, 22];
 
 fn number(answer: Answer<u32>) -> i64 {
     match answer {

@@ -74,17 +74,41 @@ fn demand_3_holds_with_a_run_left_out() {
     }
 }
 
-/// Many turns of both circles, with copies up to the edge of what E2 allows.
+/// M/2 of the short form.
+const HALF: usize = 32_768;
+
+/// Copies up to the edge of what E2 allows: 18 exactly half a circle before
+/// base, 11 elsewhere. Answers how many got 18.
+fn old_copies(bearer: &mut Bearer) -> usize {
+    let newest = bearer.pair.watch.sent_count() - 1;
+    let mut opposite = 0;
+    for age in [HALF - 1, HALF - 2, HALF - 300, HALF / 2, 700] {
+        if age > newest {
+            continue;
+        }
+        let packet = newest - age;
+        let is_opposite = bearer.pair.watch.base() - packet == HALF;
+        let expected = if is_opposite {
+            Refusal::Opposite
+        } else {
+            Refusal::Late
+        };
+        assert_eq!(bearer.arrive_packet(packet).unwrap(), Err(expected));
+        opposite += usize::from(is_opposite);
+    }
+    opposite
+}
+
+/// Many turns of both circles, with old copies before and after each expiry.
 #[test]
 fn demand_3_holds_over_rollovers() {
     for bits in [12, 15] {
-        let opening = Opening {
+        let mut bearer = Bearer::new(Opening {
             bits,
             first: 65_000,
             first_pdcp: 5,
-        };
-        let mut bearer = Bearer::new(opening);
-        let half = opening.numbers() as usize / 2;
+        });
+        let mut opposite = 0;
         for round in 0..1_500 {
             bearer
                 .make(&Step::Send {
@@ -93,15 +117,10 @@ fn demand_3_holds_over_rollovers() {
                 })
                 .unwrap();
             bearer.arrive(1 + round as usize % 2, 11, 106).unwrap();
-            let newest = bearer.pair.watch.sent_count() - 1;
-            for age in [half - 1, half - 2, half - 300, half / 2, 700] {
-                if age <= newest {
-                    let answer = bearer.arrive_packet(newest - age).unwrap();
-                    assert_eq!(answer, Err(Refusal::Late));
-                }
-            }
+            opposite += old_copies(&mut bearer);
+            bearer.make(&Step::Expire).unwrap();
+            opposite += old_copies(&mut bearer);
             for step in [
-                Step::Expire,
                 Step::Confirm {
                     passed: 1_000,
                     count: 600,
@@ -117,44 +136,42 @@ fn demand_3_holds_over_rollovers() {
             }
         }
         assert!(bearer.pair.tally().freed > 100_000);
+        assert!(opposite > 500, "{opposite} copies lay opposite base");
+    }
+}
+
+/// 18 within E2: half a circle of packets was sent, all of it is freed, and the
+/// first of them comes again. A send later E2 allows that no more.
+#[test]
+fn a_copy_opposite_base_keeps_demand_3() {
+    for (bits, first) in [(12, 40_000), (15, 0)] {
+        let mut bearer = Bearer::new(Opening {
+            bits,
+            first,
+            first_pdcp: 0,
+        });
+        bearer.flow(HALF).unwrap();
+        let watch = &bearer.pair.watch;
+        assert_eq!((watch.base(), watch.sent_count()), (HALF, HALF));
+        assert!(watch.may_arrive(0));
+        assert_eq!(watch.oldest_copy(), Some(0));
+        assert_eq!(bearer.arrive_packet(0), Ok(Err(Refusal::Opposite)));
+        assert_eq!(bearer.arrive_packet(1), Ok(Err(Refusal::Late)));
+        bearer.make(&Step::Send { skip: 0, count: 1 }).unwrap();
+        assert!(!bearer.pair.watch.may_arrive(0));
+        assert_eq!(bearer.pair.watch.oldest_copy(), Some(1));
     }
 }
 
 /// One step beyond E2 demand 3 is false, and the watch sees it.
 #[test]
 fn the_watch_sees_a_copy_that_is_too_old() {
-    let opening = Opening {
+    let mut bearer = Bearer::new(Opening {
         bits: 15,
         first: 0,
         first_pdcp: 0,
-    };
-    let mut bearer = Bearer::new(opening);
-    let half = opening.numbers() as usize / 2;
-    while bearer.pair.watch.sent_count() <= half {
-        let left = half + 1 - bearer.pair.watch.sent_count();
-        for step in [
-            Step::Send {
-                skip: 0,
-                count: left.min(256) as u32,
-            },
-            Step::Arrive {
-                dropped: 0,
-                period: 2,
-                count: 256,
-            },
-            Step::Confirm {
-                passed: 1_000,
-                count: 512,
-            },
-            Step::Status {
-                is_final: false,
-                room: 1_018,
-            },
-            Step::Deliver(1),
-        ] {
-            bearer.make(&step).unwrap();
-        }
-    }
+    });
+    bearer.flow(HALF + 1).unwrap();
     assert!(!bearer.pair.watch.may_arrive(0));
     assert!(bearer.pair.clone().arrive(1).unwrap().is_err());
     assert!(bearer.pair.arrive(0).is_err());

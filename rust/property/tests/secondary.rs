@@ -18,12 +18,15 @@ enum Call {
     },
     /// An arrival near half the circle ahead, and then some.
     ArriveHalfway {
-        off: i32,
+        off: i64,
     },
     /// An arrival near half the circle ahead of floor.
     ArriveAtSpan {
-        off: i32,
+        off: i64,
     },
+    /// The furthest arrival that the span allows, and an expiry: base comes to
+    /// lie opposite floor.
+    FillSpan,
     ArriveAny(u32, u32),
     Expire,
     /// Confirms of every `step`-th record.
@@ -34,6 +37,10 @@ enum Call {
     },
     ConfirmNear {
         behind: u32,
+    },
+    /// A confirm near half the circle from base.
+    ConfirmHalfway {
+        off: i64,
     },
     ConfirmAny(u32),
     Status {
@@ -48,13 +55,16 @@ fn calls() -> impl Strategy<Value = Call> {
         3 => (0_u32..600, 1_u32..5, 1_u32..5).prop_map(arrive),
         2 => (0_u32..3, 2_u32..3, 100_u32..300).prop_map(arrive),
         2 => (0_u32..3, 1_u32..2, 100_u32..300).prop_map(arrive),
-        1 => (-3_i32..260).prop_map(|off| Call::ArriveHalfway { off }),
-        1 => (-3_i32..3).prop_map(|off| Call::ArriveAtSpan { off }),
+        1 => (-3_i64..260).prop_map(|off| Call::ArriveHalfway { off }),
+        1 => (-1_i64..2).prop_map(|off| Call::ArriveHalfway { off }),
+        1 => (-3_i64..3).prop_map(|off| Call::ArriveAtSpan { off }),
+        1 => Just(Call::FillSpan),
         1 => (any::<u32>(), any::<u32>()).prop_map(|(number, pdcp)| Call::ArriveAny(number, pdcp)),
         4 => Just(Call::Expire),
         6 => (some_or(0, 0..8), some_or(1, 1..3), some_or(600, 1..300))
             .prop_map(|(from, step, count)| Call::Confirm { from, step, count }),
         2 => (0_u32..600).prop_map(|behind| Call::ConfirmNear { behind }),
+        1 => (-2_i64..3).prop_map(|off| Call::ConfirmHalfway { off }),
         1 => any::<u32>().prop_map(Call::ConfirmAny),
         4 => (prop::bool::weighted(0.02), prop_oneof![Just(1_018_usize), 0_usize..1_018])
             .prop_map(|(is_final, room)| Call::Status { is_final, room }),
@@ -65,6 +75,11 @@ fn calls() -> impl Strategy<Value = Call> {
 fn some_or(usual: usize, others: std::ops::Range<usize>) -> impl Strategy<Value = usize> {
     prop_oneof![3 => Just(usual), 1 => others]
 }
+
+const STATUS: Call = Call::Status {
+    is_final: false,
+    room: 1_018,
+};
 
 fn arrive((ahead, step, count): (u32, u32, u32)) -> Call {
     Call::Arrive { ahead, step, count }
@@ -105,12 +120,11 @@ impl Test {
                     self.arrive(self.number(base + i64::from(ahead + i * step)))?;
                 }
             }
-            Call::ArriveHalfway { off } => {
-                self.arrive(self.number(base + half - i64::from(off)))?
-            }
-            Call::ArriveAtSpan { off } => {
-                let floor = self.model.floor() as i64;
-                self.arrive(self.number(floor + half + i64::from(off)))?;
+            Call::ArriveHalfway { off } => self.arrive(self.number(base + half - off))?,
+            Call::ArriveAtSpan { off } => self.arrive_at_span(off)?,
+            Call::FillSpan => {
+                self.arrive_at_span(-1)?;
+                self.expire()?;
             }
             Call::ArriveAny(number, pdcp) => {
                 prop_assert_eq!(
@@ -118,7 +132,7 @@ impl Test {
                     self.model.arrive(number, pdcp)
                 );
             }
-            Call::Expire => prop_assert_eq!(self.keeper.expire(), self.model.expire()),
+            Call::Expire => self.expire()?,
             Call::Confirm { from, step, count } => {
                 let records: Vec<usize> = self.model.records().collect();
                 for index in records.into_iter().skip(from).step_by(step).take(count) {
@@ -126,6 +140,7 @@ impl Test {
                 }
             }
             Call::ConfirmNear { behind } => self.confirm(self.number(base - i64::from(behind)))?,
+            Call::ConfirmHalfway { off } => self.confirm(self.number(base + half + off))?,
             Call::ConfirmAny(number) => self.confirm(number)?,
             Call::Status { is_final, room } => self.status(is_final, room)?,
         }
@@ -139,6 +154,17 @@ impl Test {
             self.keeper.arrive(number, pdcp),
             self.model.arrive(number, pdcp)
         );
+        Ok(())
+    }
+
+    /// An arrival half the circle and `off` ahead of floor.
+    fn arrive_at_span(&mut self, off: i64) -> Result<(), TestCaseError> {
+        let half = self.opening.numbers() as i64 / 2;
+        self.arrive(self.number(self.model.floor() as i64 + half + off))
+    }
+
+    fn expire(&mut self) -> Result<(), TestCaseError> {
+        prop_assert_eq!(self.keeper.expire(), self.model.expire());
         Ok(())
     }
 
@@ -216,6 +242,62 @@ proptest! {
     }
 }
 
+/// A record, or a listed number, that comes to lie opposite base.
+#[test]
+fn what_is_opposite_base_lies_before_it() {
+    let calls = [
+        Call::FillSpan,
+        Call::ArriveHalfway { off: 0 },
+        arrive((0, 1, 1)),
+        STATUS,
+        arrive((0, 1, 1)),
+        Call::ConfirmHalfway { off: 0 },
+        Call::ConfirmHalfway { off: 0 },
+        STATUS,
+        arrive((0, 1, 1)),
+    ];
+    for bits in [12, 15, 18] {
+        for records in [0, 1] {
+            let mut test = Test::new(Opening {
+                bits,
+                first: 65_000,
+                first_pdcp: 0,
+            });
+            test.make(&arrive((0, 1, records))).unwrap();
+            for call in &calls {
+                test.make(call).unwrap();
+            }
+        }
+    }
+}
+
+/// 10, and on a closed end 9, come before 18.
+#[test]
+fn an_opposite_number_is_judged_in_order() {
+    for bits in [12, 15, 18] {
+        let opening = Opening {
+            bits,
+            first: 65_000,
+            first_pdcp: 0,
+        };
+        let mut test = Test::new(opening);
+        let opposite = test.number(opening.numbers() as i64 / 2);
+        let outside = opening.pdcps() as u32;
+        for (pdcp, expected) in [
+            (outside, Refusal::NumberTooLarge),
+            (outside - 1, Refusal::Opposite),
+        ] {
+            assert_eq!(test.keeper.arrive(opposite, pdcp), Err(expected));
+            assert_eq!(test.model.arrive(opposite, pdcp), Err(expected));
+        }
+        test.status(true, 1_018).unwrap();
+        for pdcp in [outside, outside - 1] {
+            assert_eq!(test.keeper.arrive(opposite, pdcp), Err(Refusal::Closed));
+            assert_eq!(test.model.arrive(opposite, pdcp), Err(Refusal::Closed));
+        }
+    }
+}
+
 #[test]
 fn the_model_gives_the_bench_sheet() {
     let mut model = Secondary::open(Opening {
@@ -225,7 +307,12 @@ fn the_model_gives_the_bench_sheet() {
     });
     assert_eq!(model.clone().arrive(255, 0), Ok(0));
     assert_eq!(model.clone().arrive(32_767, 0), Ok(32_512));
-    assert_eq!(model.clone().arrive(32_768, 0), Err(Refusal::Late));
+    assert_eq!(model.clone().arrive(32_768, 0), Err(Refusal::Opposite));
+    assert_eq!(model.clone().arrive(32_769, 0), Err(Refusal::Late));
+    assert_eq!(
+        model.clone().arrive(32_768, 4_096),
+        Err(Refusal::NumberTooLarge)
+    );
     assert_eq!(model.arrive(256, 0), Ok(1));
     assert_eq!(model.arrive(32_768, 0), Err(Refusal::Span));
 }

@@ -23,6 +23,15 @@ pub struct Ends {
     pub frames: VecDeque<Vec<u8>>,
 }
 
+impl Ends {
+    /// Whether a number that the secondary holds lies before base.
+    #[must_use]
+    pub fn is_before_base(&self, number: u32) -> bool {
+        let circle = self.bearer.numbers();
+        circle.compare(self.keeper.base(), number).is_before()
+    }
+}
+
 /// A script being written.
 pub struct Script {
     /// Its text so far.
@@ -112,6 +121,11 @@ impl Script {
         let number = circle.step(self.ends.keeper.base(), ahead);
         let pdcp = self.rng.word() % self.ends.bearer.pdcp.size();
         self.arrive(number, pdcp);
+    }
+
+    /// An arrival opposite base, as of a copy half a circle old.
+    pub fn arrive_opposite(&mut self) {
+        self.arrive_ahead(self.ends.bearer.numbers().half());
     }
 
     /// An expiry.

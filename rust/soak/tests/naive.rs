@@ -156,9 +156,11 @@ fn read_back(answer: &str) -> String {
     }
 }
 
-fn play(script: &Script) {
+/// Plays a script on the library and on the model. Answers what both said.
+fn play(script: &Script) -> Vec<String> {
     let mut naive = Naive::open([12, 0, 0]);
     let mut replay = Replay::default();
+    let mut answers = Vec::new();
     for (place, line) in script.text.split(|&octet| octet == b'\n').enumerate() {
         let mut room = [0; LONGEST];
         let Some(call) = Call::of_line(line, &mut room) else {
@@ -175,7 +177,9 @@ fn play(script: &Script) {
             expected,
             "line {place}: {call}"
         );
+        answers.push(expected);
     }
+    answers
 }
 
 #[test]
@@ -185,6 +189,41 @@ fn the_library_is_the_naive_model_on_scripts() {
         // The model is too slow for jumps over millions.
         let bits = if round % 2 == 0 { 12 } else { 15 };
         let script = Script::with_bits(Rng::new(rng.bits()), bits);
-        play(&moods::in_moods(script));
+        let _ = play(&moods::in_moods(script));
     }
+}
+
+/// Half a circle of packets, of which every one arrives and is freed. Then a copy
+/// of the first is within demand 3's bounds and opposite base, one of the second
+/// is late.
+#[test]
+fn half_a_circle_of_packets() {
+    let mut script = Script::with_bits(Rng::new(3), 12);
+    let half = script.ends.bearer.numbers().half();
+    let mut sent = Vec::new();
+    for packet in 1..=half {
+        script.send_next(0);
+        let (number, pdcp) = script.ends.under_way.pop_front().unwrap();
+        sent.push((number, pdcp));
+        script.arrive(number, pdcp);
+        script.confirm(number);
+        if packet % 256 == 0 {
+            script.status(false, LONGEST);
+            script.deliver();
+        }
+    }
+    script.show();
+    for (number, pdcp) in &sent[..2] {
+        script.arrive(*number, *pdcp);
+    }
+    let answers = play(&script);
+    let freed = |answer: &&String| answer.starts_with("freed\t256\tlost\t0");
+    assert_eq!(answers.iter().filter(freed).count(), 128);
+    let [keeper, ledger, first, second] = &answers[answers.len() - 4..] else {
+        panic!("{answers:?}");
+    };
+    // Base is the next number to be sent.
+    let base = keeper.split('\t').nth(1);
+    assert_eq!(base, ledger.split('\t').nth(1));
+    assert_eq!([first, second], ["refused\t18", "refused\t11"]);
 }

@@ -116,6 +116,10 @@ fn a_short_ramp_passes_and_is_drawn() {
         let (code, report) = ramp(&folder, &sibling("replay"), &["--bits", bits]);
         assert_eq!(code, Some(0), "{report}");
         assert!(report.contains("Result: PASSED at 2,000 packets a second, as asked for"));
+        // Of the long form no half circle is sent in so short a time.
+        let (_, refusals) = report.split_once("Refusals met").unwrap();
+        let (met, _) = refusals.split_once("Refusals never met").unwrap();
+        assert_eq!(met.contains("18  opposite"), bits != "18", "{met}");
         let chart = fs::read_to_string(folder.join("ramp.svg")).unwrap();
         assert!(chart.starts_with("<svg") && chart.trim_end().ends_with("</svg>"));
     }

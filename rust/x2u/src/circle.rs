@@ -1,6 +1,28 @@
 //! Numbers on a circle. They are never compared as plain integers: only the
 //! forward distance between two of them means anything once they roll over.
 
+/// How a number lies, seen from another.
+#[derive(Clone, Copy, Debug, PartialEq, Eq, Hash)]
+pub enum Lies {
+    /// They are one number.
+    Same,
+    /// It is less than half the circle forward.
+    Ahead,
+    /// It is more than half the circle forward, so less than half back.
+    Behind,
+    /// It is half the circle away, forward and back.
+    Opposite,
+}
+
+impl Lies {
+    /// Whether what is held, seen so from base, lies before it: what is
+    /// opposite still does.
+    #[must_use]
+    pub const fn is_before(self) -> bool {
+        matches!(self, Self::Behind | Self::Opposite)
+    }
+}
+
 /// The numbers from 0 to 2^bits - 1, with 0 following the last.
 #[derive(Clone, Copy, Debug, PartialEq, Eq)]
 pub struct Circle {
@@ -22,7 +44,7 @@ impl Circle {
         self.mask + 1
     }
 
-    /// Half of them: from this forward distance on, a number lies behind.
+    /// Half of them: at this forward distance a number lies opposite.
     #[must_use]
     pub const fn half(self) -> u32 {
         self.size() / 2
@@ -50,5 +72,23 @@ impl Circle {
     #[must_use]
     pub const fn before(self, number: u32) -> u32 {
         number.wrapping_sub(1) & self.mask
+    }
+
+    /// How `to` lies, seen from `from`.
+    #[must_use]
+    pub const fn compare(self, from: u32, to: u32) -> Lies {
+        let forward = self.forward(from, to);
+        // Half is asked first: mostly it matters only on which side of it.
+        if forward < self.half() {
+            if forward == 0 {
+                Lies::Same
+            } else {
+                Lies::Ahead
+            }
+        } else if forward == self.half() {
+            Lies::Opposite
+        } else {
+            Lies::Behind
+        }
     }
 }

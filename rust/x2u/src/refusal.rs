@@ -24,7 +24,7 @@ pub enum Refusal {
     Closed = 9,
     /// An X2-U number is M or more, or a PDCP number 2^L or more.
     NumberTooLarge = 10,
-    /// The number lies before base.
+    /// The number lies behind base: forward to it is more than M/2.
     Late = 11,
     /// The number already has a record.
     Repeated = 12,
@@ -38,6 +38,8 @@ pub enum Refusal {
     NotConfirmable = 16,
     /// No open number below the highest accepted.
     NothingOpen = 17,
+    /// The number lies opposite base: forward to it is exactly M/2.
+    Opposite = 18,
     /// The buffer is shorter than the frame.
     BufferShort = 20,
     /// Final asked while more runs are listed than a frame carries.
@@ -60,7 +62,7 @@ pub enum Refusal {
 
 impl Refusal {
     /// Every refusal, in rising order of number.
-    pub const ALL: [Self; 25] = [
+    pub const ALL: [Self; 26] = [
         Self::FrameLength,
         Self::ReservedType,
         Self::FieldsCut,
@@ -77,6 +79,7 @@ impl Refusal {
         Self::RecordsFull,
         Self::NotConfirmable,
         Self::NothingOpen,
+        Self::Opposite,
         Self::BufferShort,
         Self::FinalTooEarly,
         Self::NotOurStatus,

@@ -51,9 +51,10 @@ fn open_refuses() {
 fn a_closed_end_refuses_everything() {
     let mut keeper = keeper_with_runs(12, 1);
     status(&mut keeper, true).unwrap();
-    refused(&mut keeper, Refusal::Closed, |k| {
-        k.arrive(u32::MAX, u32::MAX)
-    });
+    let opposite = keeper.base() + 32_768;
+    for (number, pdcp) in [(u32::MAX, u32::MAX), (opposite, 0), (opposite + 1, 0)] {
+        refused(&mut keeper, Refusal::Closed, |k| k.arrive(number, pdcp));
+    }
     refused(&mut keeper, Refusal::Closed, Keeper::expire);
     refused(&mut keeper, Refusal::Closed, |k| k.confirm(u32::MAX));
     refused(&mut keeper, Refusal::Closed, |k| {
@@ -67,10 +68,15 @@ fn arrival_refuses_in_order() {
     refused(&mut keeper, Refusal::NumberTooLarge, |k| {
         k.arrive(65_536, 0)
     });
-    refused(&mut keeper, Refusal::NumberTooLarge, |k| {
-        k.arrive(64_999, 4_096)
-    });
-    refused(&mut keeper, Refusal::Late, |k| k.arrive(64_999, 0));
+    for number in [64_999, 32_232] {
+        refused(&mut keeper, Refusal::NumberTooLarge, |k| {
+            k.arrive(number, 4_096)
+        });
+    }
+    refused(&mut keeper, Refusal::Opposite, |k| k.arrive(32_232, 0));
+    for number in [32_233, 64_999] {
+        refused(&mut keeper, Refusal::Late, |k| k.arrive(number, 0));
+    }
     keeper.arrive(65_100, 7).unwrap();
     keeper.arrive(65_050, 6).unwrap();
     refused(&mut keeper, Refusal::Repeated, |k| k.arrive(65_100, 7));
@@ -220,15 +226,50 @@ fn the_largest_jump_is_one_run() {
     assert_eq!(keeper.listed_runs(), [run(first, far - 256)]);
 }
 
-#[test]
-fn a_record_half_the_circle_behind_can_be_confirmed() {
-    let mut keeper = Keeper::open(15, 0, 0).unwrap();
-    keeper.arrive(0, 0).unwrap();
-    keeper.arrive(32_767, 1).unwrap();
+/// A keeper with half the circle between `first`, held, and base.
+fn half_way_round(pdcp_bits: u32, first: u32, first_is_lost: bool) -> (Keeper, u32) {
+    let mut keeper = Keeper::open(pdcp_bits, first, 0).unwrap();
+    let size = if pdcp_bits == 18 { 1 << 24 } else { 1 << 16 };
+    let base = (first + size / 2) % size;
+    if !first_is_lost {
+        keeper.arrive(first, 0).unwrap();
+    }
+    keeper.arrive((base + size - 1) % size, 1).unwrap();
     keeper.expire().unwrap();
-    assert_eq!(keeper.base(), 32_768);
-    assert_eq!(keeper.confirm(0), Ok(()));
-    refused(&mut keeper, Refusal::Span, |k| k.arrive(32_768, 2));
-    status(&mut keeper, false).unwrap();
-    assert_eq!(keeper.arrive(32_768, 2), Ok(0));
+    assert_eq!(keeper.base(), base);
+    (keeper, base)
+}
+
+#[test]
+fn a_record_opposite_base_lies_before_it() {
+    for (bits, first) in [(15, 0), (12, 40_000), (18, 0), (18, 9_000_000)] {
+        let (mut keeper, base) = half_way_round(bits, first, false);
+        refused(&mut keeper, Refusal::Opposite, |k| k.arrive(first, 0));
+        refused(&mut keeper, Refusal::Late, |k| k.arrive(first + 1, 0));
+        // With and without listed numbers, 13 counts from the record on.
+        refused(&mut keeper, Refusal::Span, |k| k.arrive(base, 2));
+        status(&mut keeper, false).unwrap();
+        refused(&mut keeper, Refusal::Span, |k| k.arrive(base, 2));
+        refused(&mut keeper, Refusal::NotConfirmable, |k| {
+            k.confirm(first + 1)
+        });
+        assert_eq!(keeper.confirm(first), Ok(()));
+        refused(&mut keeper, Refusal::NotConfirmable, |k| k.confirm(first));
+        status(&mut keeper, false).unwrap();
+        assert_eq!(keeper.arrive(base, 2), Ok(0));
+    }
+}
+
+#[test]
+fn a_listed_number_opposite_base_lies_before_it() {
+    for (bits, first) in [(15, 0), (12, 40_000), (18, 0), (18, 9_000_000)] {
+        let (mut keeper, base) = half_way_round(bits, first, true);
+        assert_eq!(keeper.listed_runs()[0].start, first);
+        refused(&mut keeper, Refusal::Opposite, |k| k.arrive(first, 0));
+        refused(&mut keeper, Refusal::Span, |k| k.arrive(base, 2));
+        refused(&mut keeper, Refusal::NotConfirmable, |k| k.confirm(first));
+        let (_, ranges) = status_of(&status(&mut keeper, false).unwrap());
+        assert_eq!(ranges[0].start, first);
+        assert_eq!(keeper.arrive(base, 2), Ok(0));
+    }
 }

@@ -1,4 +1,4 @@
-//! Document 01's bench sheet, line by line.
+//! Document 01's bench sheet as request One left it, line by line.
 
 mod common;
 
@@ -84,7 +84,8 @@ fn arrival_at_the_window() {
 #[test]
 fn arrival_at_half_the_circle() {
     assert_eq!(keeper(15, 0, 0).arrive(32_767, 0), Ok(32_512));
-    assert_eq!(keeper(15, 0, 0).arrive(32_768, 0), Err(Refusal::Late));
+    assert_eq!(keeper(15, 0, 0).arrive(32_768, 0), Err(Refusal::Opposite));
+    assert_eq!(keeper(15, 0, 0).arrive(32_769, 0), Err(Refusal::Late));
 }
 
 #[test]

@@ -10,10 +10,11 @@ use lib.ListN.{length, take, drop}
 use Rattle.basics.specs.Basics.{if_then_else_, _and_, _or_, alike}
 use Rattle.basics.proofs.Choices.{contrary}
 use Rattle.circle.specs.Circle.{forward}
+use Rattle.circle.specs.Sides.{Side, same, ahead, behind, opposite, lies}
 use Rattle.circle.specs.Lengths.{isLong, pdcps, modulusOf}
 use Rattle.frame_layout.specs.Frames.{Status, Reading, data-of, status-of, refuse, readFrame}
 use Rattle.bearer.specs.Bearer.{After, Keeps, refusing, answering, mostRuns, mostRecords, mostEntries}
-use Rattle.bearer.specs.Losses.{beforeBase, topOf}
+use Rattle.bearer.specs.Losses.{topOf}
 use Rattle.bearer.specs.Keeper as K
 use Rattle.bearer.specs.Ledger as G
 
@@ -70,12 +71,20 @@ arrive-at-keeps k n p i d =
     (either-keeps k (ltb mostRuns (length (K.runsAfter k (K.limitOf d)))) _ _ (refusal-keeps _ k _)
     (either-keeps k (leb mostRecords (length (k .records))) _ _ (refusal-keeps _ k _) (answer-keeps k _ _))))
 
+arrive-on-keeps : (k : K.Keeper) (n p : ℕ) → Keeps k (K.arriveOn k n p)
+arrive-on-keeps k n p = arrive-at-keeps k n p (K.placeOf k n) (forward (modulusOf (k .bits)) (k .base) n)
+
+arrive-by-keeps : (k : K.Keeper) (n p : ℕ) (s : Side) → Keeps k (K.arriveBy k n p s)
+arrive-by-keeps k n p same = arrive-on-keeps k n p
+arrive-by-keeps k n p ahead = arrive-on-keeps k n p
+arrive-by-keeps k n p behind = refusal-keeps _ k _
+arrive-by-keeps k n p opposite = refusal-keeps _ k _
+
 pub arrive-keeps : (k : K.Keeper) (n p : ℕ) → Keeps k (K.arrive k n p)
 arrive-keeps k n p =
     either-keeps k (k .closed) _ _ (refusal-keeps _ k _)
     (either-keeps k (not (ltb n (modulusOf (k .bits)) and ltb p (pdcps (k .bits)))) _ _ (refusal-keeps _ k _)
-    (either-keeps k (beforeBase (modulusOf (k .bits)) (k .base) n) _ _ (refusal-keeps _ k _)
-    (arrive-at-keeps k n p (K.placeOf k (forward (modulusOf (k .bits)) (k .base) n)) (forward (modulusOf (k .bits)) (k .base) n))))
+    (arrive-by-keeps k n p (lies (modulusOf (k .bits)) (k .base) n)))
 
 expire-below-keeps : (k : K.Keeper) (top : ℕ) → Keeps k (K.expireBelow k top)
 expire-below-keeps k top =

@@ -27,7 +27,7 @@ use Rattle.bearer.proofs.Joint.Joined.{Second, Joint}
 use Rattle.bearer.proofs.Joint.Growth.{base-onward, open-ahead, joint-onward}
 use Rattle.bearer.proofs.Joint.Calls.{joint-kept}
 use Rattle.bearer.proofs.Joint.Room.{floor-near, runs-near, records-near, was-open}
-use Rattle.bearer.proofs.Joint.Copies.{copied, copy-late, copy-recorded, copy-taken}
+use Rattle.bearer.proofs.Joint.Copies.{copied, copy-refused, copy-recorded, copy-taken}
 
 -- ---- what is declared lost
 
@@ -152,7 +152,7 @@ module _ {L first : ℕ} (ok : isLength L ≡ true) {w : World} (j : Joint L fir
       unshut : w .keeper .closed ≡ false → Joint L first (after-copy n)
       unshut o =
           ⊎-elim
-          (λ (l : n < j .second .a .base). kept n (same-state (copy-late ok j o n h k l)) (λ c. j .second .follows .fates .lowest .none-below n l))
+          (λ (l : n < j .second .a .base). kept n (same-state (copy-refused ok j o n h k l)) (λ c. j .second .follows .fates .lowest .none-below n l))
           (λ (l : j .second .a .base ≤ n).
           let d = n - j .second .a .base in
           let e : j .second .a .base + d ≡ n = omega arith in

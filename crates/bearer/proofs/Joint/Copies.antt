@@ -1,5 +1,5 @@
 -- What copies are answered while both ends are joined and the secondary is open: an open packet is taken, with the count that the rule declares
--- lost; any other is late if it lies before base, and has a record if not.
+-- lost; any other is opposite or late if it lies before base, and has a record if not.
 -- Assumes nothing.
 use mathlib.Core.Path.{_≡_, sym, _∙_, ap, subst}
 use mathlib.Core.Bool.{Bool, true, false}
@@ -7,9 +7,9 @@ use mathlib.Core.Logic.{⊎-elim}
 use Prim.Native.Nat.{ℕ, _+_, _-_, _≤_, _<_}
 use native.Mathlib.Omega.{arith}
 use borrow.Author.Tests.{lt-leb, lt-ltb, le-ltb}
-use lib.Dec.{ltb}
+use lib.Dec.{ltb, eqb}
 use lib.ListN.{length, getD}
-use Rattle.basics.specs.Basics.{done}
+use Rattle.basics.specs.Basics.{if_then_else_, done, refused}
 use Rattle.basics.proofs.Choices.{tested, otherwise, chosen, order}
 use Rattle.circle.specs.Lengths.{isLength, half}
 use Rattle.bearer.specs.Bearer.{mostRuns, mostRecords, After, refusing, answering}
@@ -22,7 +22,7 @@ use Rattle.bearer.specs.Demand3.{Answered, CopiesAnswered}
 use Rattle.bearer.proofs.Lists.Lengths.{roomy}
 use Rattle.bearer.proofs.Answers.Accepted.{same-answer}
 use Rattle.bearer.proofs.Secondary.Index.{Indexed, image, imageAfter, floorI, placeI, givenUpI, runsAfterI, arrivedI, arriveI}
-use Rattle.bearer.proofs.Secondary.Image.{late, image-arrive}
+use Rattle.bearer.proofs.Secondary.Image.{refusedBefore, before-refused, image-arrive}
 use Rattle.bearer.proofs.Secondary.Open.{received-closed, one-lowest}
 use Rattle.bearer.proofs.Secondary.Follows.{follows-has}
 use Rattle.bearer.proofs.Secondary.FollowsArrival.{arrival-count}
@@ -50,11 +50,11 @@ module _ {L first : ℕ} (ok : isLength L ≡ true) {w : World} (j : Joint L fir
   refused-is : (n : ℕ) → refusing {A = ℕ} n (image L first a) ≡ refusing n (w .keeper)
   refused-is n = ap (refusing n) (sym (j .second .keeper-is))
 
-  -- a packet before base is late
-  pub copy-late : (i : ℕ) → i < length (w .sent) → length (w .sent) ≤ i + half L → i < a .base → copied L first w i ≡ refusing 11 (w .keeper)
-  copy-late i h k l =
+  -- a packet before base is refused: late, or opposite
+  pub copy-refused : (i : ℕ) → i < length (w .sent) → length (w .sent) ≤ i + half L → i < a .base → copied L first w i ≡ refusing (refusedBefore (half L) (a .base) i) (w .keeper)
+  copy-refused i h k l =
       let b = base-sent (j .second) in
-      copied-is i ∙ late L first a i (getD (w .sent) i 0) l (omega arith) (j .there .master .ordered .below i h) open-a ∙ refused-is 11
+      copied-is i ∙ before-refused L first a i (getD (w .sent) i 0) l (omega arith) (j .there .master .ordered .below i h) open-a ∙ refused-is (refusedBefore (half L) (a .base) i)
 
   module _ (d : ℕ) (sent-it : a .base + d < length (w .sent)) where
     -- the packet d past base, its PDCP number and its place among the records
@@ -93,13 +93,19 @@ module _ {L first : ℕ} (ok : isLength L ≡ true) {w : World} (j : Joint L fir
 
   -- a copy of a packet is answered so, by the lowest open packet
   abbrev Right : ℕ → Type 0
-  Right i = Answered (isOpen (w .fates) i) (ltb i (a .base)) (declared i) (copied L first w i .answer)
+  Right i = Answered (isOpen (w .fates) i) (ltb i (a .base)) (eqb (i + half L) (a .base)) (declared i) (copied L first w i .answer)
 
   answers : (i : ℕ) → i < length (w .sent) → length (w .sent) ≤ i + half L → Right i
   answers i h k = ⊎-elim before (λ l. let e : a .base + (i - a .base) ≡ i = omega arith in subst Right e (from (i - a .base) (omega arith))) (order i (a .base))
     where
+      refused-by : (t : Bool) → copied L first w i .answer ≡ refused (if t then 18 else 11) → Answered false true t (declared i) (copied L first w i .answer)
+      refused-by true e = e
+      refused-by false e = e
+
       before : i < a .base → Right i
-      before l = rw (j .second .follows .fates .lowest .none-below i l, lt-ltb i (a .base) l) (same-answer (copy-late i h k l))
+      before l =
+          subst (λ (b : Bool). Answered b (ltb i (a .base)) (eqb (i + half L) (a .base)) (declared i) (copied L first w i .answer)) (sym (j .second .follows .fates .lowest .none-below i l))
+          (rw (lt-ltb i (a .base) l) (refused-by (eqb (i + half L) (a .base)) (same-answer (copy-refused i h k l))))
 
       from : (d : ℕ) → a .base + d < length (w .sent) → Right (a .base + d)
       from d s =
@@ -108,7 +114,7 @@ module _ {L first : ℕ} (ok : isLength L ≡ true) {w : World} (j : Joint L fir
           (λ fresh.
           let count = arrival-count (j .second .follows) d fresh (floor-near ok j o d s fresh) in
           let n : sizeOf (givenUpI a (K.limitOf d)) ≡ declared x = omega (arith, count) in
-          subst (λ (b : Bool). Answered b (ltb x (a .base)) (declared x) (copied L first w x .answer)) (sym (was-open ok j o d s fresh)) (same-answer (copy-taken d s fresh) ∙ ap done n))
+          subst (λ (b : Bool). Answered b (ltb x (a .base)) (eqb (x + half L) (a .base)) (declared x) (copied L first w x .answer)) (sym (was-open ok j o d s fresh)) (same-answer (copy-taken d s fresh) ∙ ap done n))
           (tested (isIn x (w .fates .received)))
 
 pub joint-answers : {L first : ℕ} {w : World} → isLength L ≡ true → Joint L first w → CopiesAnswered L first w

@@ -8,7 +8,7 @@ use mathlib.Core.Logic.{_⊎_, inl, inr, ⊎-elim}
 use Prim.Native.Nat.{ℕ, zero, suc, _≤_, _<_}
 use native.Mathlib.Nat.{eq-or-lt-of-le}
 use native.Mathlib.Omega.{arith}
-use borrow.Author.Tests.{eqb-true, eq-eqb, ne-eqb, leb-true, leb-false, le-leb}
+use borrow.Author.Tests.{eqb-true, eq-eqb, ne-eqb, leb-true, leb-false, le-leb, lt-leb}
 use lib.Dec.{leb, eqb}
 use lib.ListN.{length, getD, take, drop, set, take-append-drop, drop-of-length-le}
 use lib.Seq.{take-suc, drop-cons}
@@ -19,7 +19,7 @@ use Rattle.bearer.specs.Losses.{frontOf}
 use Rattle.bearer.specs.Keeper.{runWith}
 use Rattle.bearer.specs.Rule.{isIn}
 use Rattle.bearer.specs.Packets.{In, Rising, Each}
-use Rattle.bearer.proofs.Lists.Mapped.{each-append, each-take, each-drop, each-behind}
+use Rattle.bearer.proofs.Lists.Mapped.{each-append, each-take, each-drop, each-of-all, each-behind, front-none}
 
 -- ---- membership
 
@@ -186,14 +186,14 @@ through q l x h r p =
 abbrev pub front : ℕ → List ℕ → ℕ
 front c xs = frontOf (λ (j : ℕ). leb c j) xs
 
-from-all : (c : ℕ) (xs : List ℕ) → ((i : ℕ) → In i xs → c ≤ i) → all (λ (j : ℕ). leb c j) xs ≡ true
-from-all c [] h = refl
-from-all c (x ∷ xs) h = rw (le-leb c x (h x (in-head x xs))) (from-all c xs (λ i t. h i (in-tail i x xs t)))
+-- a property of everything in a list
+all-in : (q : ℕ → Bool) (xs : List ℕ) → ((i : ℕ) → In i xs → q i ≡ true) → all q xs ≡ true
+all-in q [] h = refl
+all-in q (x ∷ xs) h = rw (h x (in-head x xs)) (all-in q xs (λ i t. h i (in-tail i x xs t)))
 
 -- where all elements are from c on, the place is the list's start
 pub front-zero : (c : ℕ) (xs : List ℕ) → ((i : ℕ) → In i xs → c ≤ i) → front c xs ≡ 0
-front-zero c [] h = refl
-front-zero c (x ∷ xs) h = rw (from-all c (x ∷ xs) h)
+front-zero c xs h = front-none (leb c) xs (all-in (leb c) xs (λ i t. le-leb c i (h i t)))
 
 pub from-front : (c : ℕ) (xs : List ℕ) (i : ℕ) → In i (drop (front c xs) xs) → c ≤ i
 from-front c xs i h =
@@ -211,7 +211,7 @@ below-front c (x ∷ xs) r i h =
 
     first : all (λ (j : ℕ). leb c j) (x ∷ xs) ≡ false → x < c
     first e =
-        ⊎-elim (λ g. absurd (contrary (from-all c (x ∷ xs) (from-first (leb-true c x g))) e)) (λ l. leb-false c x l) (tested (leb c x))
+        ⊎-elim (λ g. absurd (contrary (all-in (leb c) (x ∷ xs) (λ j t. le-leb c j (from-first (leb-true c x g) j t))) e)) (λ l. leb-false c x l) (tested (leb c x))
 
 -- an element from c on stands behind the place, one below c in front of it
 pub behind-front : (c : ℕ) (xs : List ℕ) → Rising xs → (i : ℕ) → c ≤ i → In i xs → In i (drop (front c xs) xs)
@@ -223,22 +223,28 @@ abbrev pub endsIn : List ℕ → ℕ → ℕ → Bool
 endsIn xs i zero = false
 endsIn xs i (suc p) = eqb (getD xs p 0) i
 
--- in a rising list i can only stand in front of the first element past it
-pub ends-in : (xs : List ℕ) (i : ℕ) → Rising xs → endsIn xs i (front (suc i) xs) ≡ isIn i xs
-ends-in [] i r = refl
-ends-in (x ∷ xs) i r =
-    ⊎-elim (λ e. rw e (sym (refuted (isIn i (x ∷ xs)) (λ h. let l : i < i = from-front (suc i) (x ∷ xs) i (rw e h) in omega arith))))
-    (λ e. rw e (at-first (front (suc i) xs) refl (ends-in xs i (rising-tail x xs r))))
-    (tested (all (λ (j : ℕ). leb (suc i) j) (x ∷ xs)))
+-- in a rising list i can only stand in front of those at the end that have a property, if i hasn't it and all past i have
+pub ends-in : (q : ℕ → Bool) (xs : List ℕ) (i : ℕ) → Rising xs → q i ≡ false → ((j : ℕ) → In j xs → i < j → q j ≡ true)
+    → endsIn xs i (frontOf q xs) ≡ isIn i xs
+ends-in q [] i r not-i past = refl
+ends-in q (x ∷ xs) i r not-i past =
+    ⊎-elim (λ e. rw e (sym (refuted (isIn i (x ∷ xs)) (λ h. contrary (each-there (λ (j : ℕ). q j ≡ true) (x ∷ xs) (each-of-all q (x ∷ xs) e) i h) not-i))))
+    (λ e. rw e (at-first (frontOf q xs) refl (ends-in q xs i (rising-tail x xs r) not-i (λ j h. past j (in-tail j x xs h)))))
+    (tested (all q (x ∷ xs)))
   where
     swapped : eqb x i ≡ eqb i x
     swapped = eqb-alike x i i x sym sym
 
-    at-first : (p : ℕ) → front (suc i) xs ≡ p → endsIn xs i p ≡ isIn i xs → eqb (getD (x ∷ xs) p 0) i ≡ (eqb i x or isIn i xs)
+    all-past : i ≡ x → frontOf q xs ≡ 0
+    all-past e = front-none q xs (all-in q xs (λ j h. past j (in-tail j x xs h) (rw e (rising-head x xs r j h))))
+
+    at-first : (p : ℕ) → frontOf q xs ≡ p → endsIn xs i p ≡ isIn i xs → eqb (getD (x ∷ xs) p 0) i ≡ (eqb i x or isIn i xs)
     at-first zero e ih = swapped ∙ sym (rw (← ih) (or-no (eqb i x)))
-    at-first (suc p) e ih =
-        let past : (i ≡ x → (j : ℕ) → In j xs → suc i ≤ j) = λ q j h. rw q (rising-head x xs r j h) in
-        rw (ne-eqb i x (λ q. let z = front-zero (suc i) xs (past q) in omega arith)) ih
+    at-first (suc p) e ih = rw (ne-eqb i x (λ same. let none = all-past same in omega arith)) ih
+
+-- ... as those past i
+pub ends-past : (xs : List ℕ) (i : ℕ) → Rising xs → endsIn xs i (front (suc i) xs) ≡ isIn i xs
+ends-past xs i r = ends-in (leb (suc i)) xs i r (lt-leb (suc i) i (omega arith)) (λ j h l. le-leb (suc i) j l)
 
 -- ---- an element put at a place
 

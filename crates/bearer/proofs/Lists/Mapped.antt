@@ -65,6 +65,11 @@ module _ {A : Type 0} (p : A → Bool) where
       by true e rest = each-of-all (x ∷ xs) e
       by false e rest = rest
 
+  -- where all elements have it, nothing stands in front of them
+  pub front-none : (xs : List A) → all p xs ≡ true → frontOf p xs ≡ 0
+  front-none [] e = refl
+  front-none (x ∷ xs) e = rw e
+
   -- a front is no longer than the list
   pub front-within : (xs : List A) → frontOf p xs ≤ length xs
   front-within [] = omega arith

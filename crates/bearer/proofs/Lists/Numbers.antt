@@ -1,36 +1,46 @@
--- Packets' numbers on a circle of M, and the tests of specs/Losses.antt on them: within half the circle of base each is a plain
--- comparison of packet indexes. The laws are stated once over M and the number of packet 0.
+-- Packets' numbers on a circle of M, how they lie to each other, and the tests of specs/Losses.antt on them: of packets within half the
+-- circle of each other each is a plain comparison of packet indexes. The laws are stated once over M and the number of packet 0.
 -- Assumes nothing.
 use mathlib.Core.Path.{_≡_, refl, sym, _∙_, ap}
 use mathlib.Core.Bool.{Bool, true, false, not}
 use Prim.Native.Nat.{ℕ, _+_, _-_, _/_, _%_, _≤_, _<_}
 use native.Mathlib.Omega.{arith}
 use native.Mathlib.Nat.{add-assoc, add-zero, mod-add-mod, mod-eq-of-lt}
-use borrow.Author.Tests.{ltb-true, ltb-false, leb-true, leb-false, le-leb, lt-leb}
+use borrow.Author.Tests.{ltb-true, ltb-false, leb-true, leb-false, eqb-true, eqb-false, lt-ltb, le-ltb, le-leb, lt-leb}
 use lib.Dec.{ltb, leb, eqb}
-use Rattle.basics.specs.Basics.{if_then_else_, _and_}
-use Rattle.basics.proofs.Choices.{and-no, and-yes, leb-alike, eqb-alike}
+use Rattle.basics.specs.Basics.{if_then_else_}
+use Rattle.basics.proofs.Choices.{contrary, eqb-alike}
 use Rattle.circle.specs.Circle as C
 use Rattle.circle.specs.Circle.{forward}
-use Rattle.circle.specs.Lengths.{modulus, modulusOf, half, isLong}
-use Rattle.bearer.specs.Losses.{beforeBase, behind, fromOn}
+use Rattle.circle.specs.Sides.{Side, same, ahead, behind, opposite, lies, Told, side-told, told-one}
+use Rattle.circle.specs.Lengths.{modulusOf, half, isLong}
+use Rattle.circle.proofs.Forms.{modulus-bounds, halves}
+use Rattle.bearer.specs.Losses.{isBefore, before, isAhead, aheadOf, fromOn, farBehind, farPast}
 
 -- ---- the two circles
-
-halves : (long : Bool) → modulus long / 2 + modulus long / 2 ≡ modulus long
-halves true = refl
-halves false = refl
 
 -- half of the numbers, twice, is all of them
 pub whole : (L : ℕ) → half L + half L ≡ modulusOf L
 whole L = halves (isLong L)
 
-some : (long : Bool) → 0 < modulus long
-some true = omega arith
-some false = omega arith
-
 pub positive : (L : ℕ) → 0 < modulusOf L
-positive L = some (isLong L)
+positive L = modulus-bounds (isLong L) .0
+
+-- ---- how numbers and packets lie to each other
+
+-- a number that doesn't lie before another is less than half the circle forward from it
+pub not-before : (L a n : ℕ) → before (modulusOf L) a n ≡ false → forward (modulusOf L) a n < half L
+not-before L a n = by (lies (modulusOf L) a n) (side-told (half L) (forward (modulusOf L) a n))
+  where
+    by : (s : Side) → Told (half L) (forward (modulusOf L) a n) s → isBefore s ≡ false → forward (modulusOf L) a n < half L
+    by same t e = omega (arith, positive L, whole L)
+    by ahead t e = t .1
+    by behind t e = absurd (contrary refl e)
+    by opposite t e = absurd (contrary refl e)
+
+-- how packet j lies to packet i, from h before it up to, and without, h past it
+abbrev pub sideI : ℕ → ℕ → ℕ → Side
+sideI h i j = if ltb j i then (if eqb (j + h) i then opposite else behind) else if eqb i j then same else ahead
 
 -- ---- the number of packet i, where packet 0 has the number first
 
@@ -85,37 +95,63 @@ module _ (M first : ℕ) (pos : 0 < M) where
   pub same-number : (i j : ℕ) → i < j + M → j < i + M → eqb (on M first i) (on M first j) ≡ eqb i j
   same-number i j hi hj = eqb-alike (on M first i) (on M first j) i j (same-packet i j hi hj) (ap (on M first))
 
-  module _ (even : M / 2 + M / 2 ≡ M) (base j : ℕ) (lo : base ≤ j + M / 2) (hi : j < base + M / 2) where
-    -- before base on the circle is before base
-    pub before-base : beforeBase M (on M first base) (on M first j) ≡ ltb j base
-    before-base = by (ltb j base) refl
+  module _ (even : M / 2 + M / 2 ≡ M) (i j : ℕ) (lo : i ≤ j + M / 2) (hi : j < i + M / 2) where
+    -- how one packet's number lies to another's, by their indexes
+    pub lies-is : lies M (on M first i) (on M first j) ≡ sideI (M / 2) i j
+    lies-is = told-one (M / 2) (forward M (on M first i) (on M first j)) (omega arith) (sideI (M / 2) i j) (by (ltb j i) refl)
       where
-        by : (b : Bool) → ltb j base ≡ b → beforeBase M (on M first base) (on M first j) ≡ b
-        by true e = let h : j < base = ltb-true j base e in rw (to-earlier base j h (omega arith)) (le-leb (M / 2) (M - (base - j)) (omega arith))
-        by false e = let h : base ≤ j = ltb-false j base e in rw (to-later base j h (omega arith)) (lt-leb (M / 2) (j - base) (omega arith))
+        later : i ≤ j → (t : Bool) → eqb i j ≡ t → Told (M / 2) (forward M (on M first i) (on M first j)) (if t then same else ahead)
+        later h true e = to-later i j h (omega arith) ∙ (let none : j - i ≡ 0 = omega (arith, eqb-true i j e) in none)
+        later h false e = let way = to-later i j h (omega arith) in let apart = eqb-false i j e in (omega arith, omega arith)
 
-    -- how far behind base
-    pub behind-is : behind M (on M first base) (on M first j) ≡ base - j
-    behind-is = rw before-base (by (ltb j base) refl)
+        earlier : j < i → (t : Bool) → eqb (j + M / 2) i ≡ t → Told (M / 2) (forward M (on M first i) (on M first j)) (if t then opposite else behind)
+        earlier h true e = omega (arith, to-earlier i j h (omega arith), eqb-true (j + M / 2) i e)
+        earlier h false e = let way = to-earlier i j h (omega arith) in let apart = eqb-false (j + M / 2) i e in omega arith
+
+        by : (t : Bool) → ltb j i ≡ t → Told (M / 2) (forward M (on M first i) (on M first j)) (if t then (if eqb (j + M / 2) i then opposite else behind) else if eqb i j then same else ahead)
+        by true e = earlier (ltb-true j i e) (eqb (j + M / 2) i) refl
+        by false e = later (ltb-false j i e) (eqb i j) refl
+
+    -- before it on the circle is before it
+    pub before-is : before M (on M first i) (on M first j) ≡ ltb j i
+    before-is = ap isBefore lies-is ∙ by (ltb j i) (eqb (j + M / 2) i) (eqb i j)
       where
-        by : (b : Bool) → ltb j base ≡ b → (if b then forward M (on M first j) (on M first base) else 0) ≡ base - j
-        by true e = let h : j < base = ltb-true j base e in to-later j base (omega arith) (omega arith)
-        by false e = omega (arith, ltb-false j base e)
+        by : (t o s : Bool) → isBefore (if t then (if o then opposite else behind) else if s then same else ahead) ≡ t
+        by true true s = refl
+        by true false s = refl
+        by false o true = refl
+        by false o false = refl
+
+    -- ahead of it is past it
+    pub ahead-is : aheadOf M (on M first i) (on M first j) ≡ ltb i j
+    ahead-is = ap isAhead lies-is ∙ by (ltb j i) (eqb i j) refl refl (eqb (j + M / 2) i)
+      where
+        by : (t s : Bool) → ltb j i ≡ t → eqb i j ≡ s → (o : Bool) → isAhead (if t then (if o then opposite else behind) else if s then same else ahead) ≡ ltb i j
+        by true s e f true = sym (le-ltb i j (omega (arith, ltb-true j i e)))
+        by true s e f false = sym (le-ltb i j (omega (arith, ltb-true j i e)))
+        by false true e f o = sym (le-ltb i j (omega (arith, eqb-true i j f)))
+        by false false e f o = let apart = eqb-false i j f in sym (lt-ltb i j (omega (arith, ltb-false j i e)))
+
+    -- and from it on is from it on
+    pub from-is : fromOn M (on M first i) (on M first j) ≡ leb i j
+    from-is = ap not before-is ∙ by (ltb j i) refl
+      where
+        by : (t : Bool) → ltb j i ≡ t → not t ≡ leb i j
+        by true e = sym (lt-leb i j (ltb-true j i e))
+        by false e = sym (le-leb i j (ltb-false j i e))
+
+    -- how far behind it
+    pub behind-is : farBehind M (on M first i) (on M first j) ≡ i - j
+    behind-is = rw before-is (by (ltb j i) refl)
+      where
+        by : (b : Bool) → ltb j i ≡ b → (if b then forward M (on M first j) (on M first i) else 0) ≡ i - j
+        by true e = let h : j < i = ltb-true j i e in to-later j i (omega arith) (omega arith)
+        by false e = omega (arith, ltb-false j i e)
 
     -- how far past it
-    pub past-is : (if beforeBase M (on M first base) (on M first j) then 0 else forward M (on M first base) (on M first j)) ≡ j - base
-    past-is = rw before-base (by (ltb j base) refl)
+    pub beyond-is : farPast M (on M first i) (on M first j) ≡ j - i
+    beyond-is = rw before-is (by (ltb j i) refl)
       where
-        by : (b : Bool) → ltb j base ≡ b → (if b then 0 else forward M (on M first base) (on M first j)) ≡ j - base
-        by true e = omega (arith, ltb-true j base e)
-        by false e = let h : base ≤ j = ltb-false j base e in to-later base j h (omega arith)
-
-    -- c or more past it
-    pub from-on : (c m : ℕ) → m ≡ base + c → fromOn M (on M first base) c (on M first j) ≡ leb m j
-    from-on c m e = rw before-base (by (ltb j base) refl)
-      where
-        by : (b : Bool) → ltb j base ≡ b → (leb c (forward M (on M first base) (on M first j)) and not b) ≡ leb m j
-        by true r = and-no (leb c (forward M (on M first base) (on M first j))) ∙ sym (lt-leb m j (omega (arith, ltb-true j base r)))
-        by false r =
-            let h : base ≤ j = ltb-false j base r in
-            rw (to-later base j h (omega arith), and-yes (leb c (j - base))) (leb-alike c (j - base) m j (omega arith) (omega arith))
+        by : (b : Bool) → ltb j i ≡ b → (if b then 0 else forward M (on M first i) (on M first j)) ≡ j - i
+        by true e = omega (arith, ltb-true j i e)
+        by false e = let h : i ≤ j = ltb-false j i e in to-later i j h (omega arith)

@@ -5,7 +5,7 @@ use mathlib.Core.Path.{_≡_, refl, _∙_}
 use mathlib.Core.Bool.{true, false}
 use mathlib.Core.List.{List, _∷_, _++_}
 use mathlib.Core.Logic.{_⊎_, inl, inr, ⊎-elim}
-use Prim.Native.Nat.{ℕ, zero, suc, _+_, _≤_, _<_}
+use Prim.Native.Nat.{ℕ, _+_, _≤_, _<_}
 use native.Mathlib.Omega.{arith}
 use lib.ListN.{length, drop}
 use Rattle.basics.proofs.Choices.{refuted, contrary, same-test}
@@ -14,7 +14,7 @@ use Rattle.bearer.specs.Losses.{Gap}
 use Rattle.bearer.specs.Rule.{Fates, allOpen, isIn, Lowest}
 use Rattle.bearer.specs.Packets.{In, Rising, Each}
 use Rattle.bearer.specs.Account.{Held, packetsOf, Maximal, indexes}
-use Rattle.bearer.proofs.Lists.Elements.{in-head, in-tail, in-cons, in-left, in-right, in-append, each-in, endsIn, ends-in}
+use Rattle.bearer.proofs.Lists.Elements.{in-head, in-tail, in-cons, in-left, in-right, in-append, each-in, ends-past}
 use Rattle.bearer.proofs.Secondary.Index.{Indexed, freshIndexed, froms, placeI, hasI}
 
 -- floor is the earliest of these: base, the starts of the listed runs and the packets with records
@@ -109,16 +109,9 @@ module _ {h : ℕ} {a : Indexed} {r : Fates} {told : ℕ} (F : Follows h a r tol
 
 -- ---- an arrival has a record just where its packet was received
 
-has-ends : (a : Indexed) (i p : ℕ) → hasI a i p ≡ endsIn (indexes (a .records)) i p
-has-ends a i zero = refl
-has-ends a i (suc p) = refl
-
 pub follows-has : {h : ℕ} {a : Indexed} {r : Fates} {told : ℕ} → Follows h a r told → (d : ℕ)
     → hasI a (a .base + d) (placeI a (a .base + d)) ≡ isIn (a .base + d) (r .received)
-follows-has {a = a} F d =
-    has-ends a (a .base + d) (placeI a (a .base + d))
-    ∙ ends-in (indexes (a .records)) (a .base + d) (F .records .rising)
-    ∙ recorded F (a .base + d) (omega arith)
+follows-has {a = a} F d = ends-past (indexes (a .records)) (a .base + d) (F .records .rising) ∙ recorded F (a .base + d) (omega arith)
 
 -- ---- a fresh end
 

@@ -38,6 +38,7 @@ follows-means {base = base} first F = record {
 
 pub follows-reach : {L : ℕ} {a : Indexed} {r : Fates} {told : ℕ} → Follows (half L) a r told → InReach L a
 follows-reach {L} {a = a} F = record {
+  rising = F .records .rising;
   floor-runs = F .runs .floor;
   floor-records = F .records .floor;
   records-ahead = in-each (λ (x : Held). x .index) (λ (j : ℕ). j < a .base + half L) (a .records) (λ j t. F .span j (a .base) t (mark-base a));

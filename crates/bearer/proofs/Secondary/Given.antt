@@ -3,30 +3,32 @@
 -- Assumes nothing.
 use mathlib.Core.Path.{_≡_, refl, sym, _∙_, ap, subst}
 use mathlib.Core.Bool.{Bool, true, false, not}
-use mathlib.Core.List.{List, []}
+use mathlib.Core.List.{List, [], _∷_}
+use mathlib.Core.Logic.{inl, inr}
 use Prim.Native.Nat.{ℕ, _+_, _<_}
 use borrow.Author.Tests.{ltb-true, leb-false, eqb-false, not-false}
 use lib.Dec.{ltb, leb, eqb}
 use lib.ListN.{length, drop, length-map}
 use Rattle.basics.specs.Basics.{Outcome, if_then_else_, _and_, done, refused}
-use Rattle.basics.specs.Refusals.{Given}
-use Rattle.basics.proofs.Choices.{and-true}
+use Rattle.basics.specs.Refusals.{Refusal, _when_, Given}
+use Rattle.basics.proofs.Choices.{contrary, and-true}
 use Rattle.basics.proofs.Refusals.{Says, says-below, says-at-most, says-holds, says-and, says-past, given-of, given-by}
+use Rattle.circle.specs.Sides.{Side, same, ahead, behind, opposite}
 use Rattle.circle.specs.Lengths.{isLength, modulusOf, half, pdcps}
 use Rattle.frame_layout.specs.Frames.{Written, mostRanges, statusOctets, place, writeStatus}
 use Rattle.bearer.specs.Bearer.{After, mostRuns, mostRecords}
-use Rattle.bearer.specs.Losses.{beforeBase}
+use Rattle.bearer.specs.Losses.{isBefore}
 use Rattle.bearer.specs.Keeper as K
 use Rattle.bearer.specs.Keeper.{limitOf}
 use Rattle.bearer.specs.Rule.{arrival, expiry}
-use Rattle.bearer.specs.Packets.{forwardFrom, numberOf}
+use Rattle.bearer.specs.Packets.{forwardFrom, numberOf, liesFrom}
 use Rattle.bearer.specs.Account.{Account, runAt, listed, statusOf}
 use Rattle.bearer.specs.KeeperMeaning.{Reached, packetAt}
 use Rattle.bearer.specs.Refusals.{openRefusals, arrivalRefusals, expiryRefusals, confirmRefusals, statusRefusals, OpensGiven, CallsGiven, SecondaryGiven}
-use Rattle.bearer.proofs.Lists.Numbers.{positive, lands}
+use Rattle.bearer.proofs.Lists.Numbers.{positive, not-before, lands}
 use Rattle.bearer.proofs.Answers.Given.{says-length, says-number, call-by, one-test}
 use Rattle.bearer.proofs.Secondary.Index.{Indexed, image, imageAfter, floorI, placeI, hasI, runsAfterI, arriveI}
-use Rattle.bearer.proofs.Secondary.Image.{image-arrive-at, image-expire-below}
+use Rattle.bearer.proofs.Secondary.Image.{image-arrive-on, image-expire-below}
 use Rattle.bearer.proofs.Secondary.Follows.{Follows, follows-has}
 use Rattle.bearer.proofs.Secondary.FollowsArrival.{arrival-listed}
 use Rattle.bearer.proofs.Secondary.FollowsExpiry.{top, expiry-listed}
@@ -47,6 +49,22 @@ open-given L first f fresh =
 pub opens-given : OpensGiven
 opens-given L first f = (open-given L first f _, open-given L first f _)
 
+-- ---- an arrival by how it lies to base: 18, 11
+
+-- opposite is none of the others
+abbrev isOpposite : Side → Bool
+isOpposite same = false
+isOpposite ahead = false
+isOpposite behind = false
+isOpposite opposite = true
+
+side-given : (k : K.Keeper) (n p : ℕ) (rs : List Refusal) (s : Side) → (isBefore s ≡ false → Given rs (K.arriveOn k n p .answer))
+    → Given ((18 when (s ≡ opposite)) ∷ (11 when (s ≡ behind)) ∷ rs) (K.arriveBy k n p s .answer)
+side-given k n p rs same on = inr ((λ e. contrary (ap isOpposite e) refl), inr ((λ e. contrary (ap isBefore e) refl), on refl))
+side-given k n p rs ahead on = inr ((λ e. contrary (ap isOpposite e) refl), inr ((λ e. contrary (ap isBefore e) refl), on refl))
+side-given k n p rs behind on = inr ((λ e. contrary (ap isOpposite e) refl), inl (refl, refl))
+side-given k n p rs opposite on = inl (refl, refl)
+
 -- ---- the calls on a state that follows its account
 
 module _ (L first : ℕ) {base : ℕ} {a : Account} (F : Follows (half L) (indexedOf base a) (a .fates) (a .told)) where
@@ -58,38 +76,37 @@ module _ (L first : ℕ) {base : ℕ} {a : Account} (F : Follows (half L) (index
 
   -- 12, 13, 14, 15: of the packet that the number names
   arrive-at-given : (n p : ℕ) → n < modulusOf L → forwardFrom L first base n < half L
-      → Given (drop 3 (arrivalRefusals L first a base n p)) (arriveI (half L) s p (placeI s (packetAt L first base n)) (forwardFrom L first base n) .answer)
+      → Given (drop 4 (arrivalRefusals L first a base n p)) (arriveI (half L) s p (placeI s (packetAt L first base n)) (forwardFrom L first base n) .answer)
   arrive-at-given n p small near =
       let rs = arrivalRefusals L first a base n p in
       let d : ℕ = forwardFrom L first base n in
-      call-by (hasI s (base + d) (placeI s (base + d))) 12 (drop 4 rs) s _ (says-has L first F n d near (lands (modulusOf L) first (positive L) base n small))
-      (λ new. call-by (leb (half L) (floorI s + d)) 13 (drop 5 rs) s _ (says-span L first F n)
-      (λ fits. call-by (ltb mostRuns (length (runsAfterI s (limitOf d)))) 14 (drop 6 rs) s _
+      call-by (hasI s (base + d) (placeI s (base + d))) 12 (drop 5 rs) s _ (says-has L first F n d near (lands (modulusOf L) first (positive L) base n small))
+      (λ new. call-by (leb (half L) (floorI s + d)) 13 (drop 6 rs) s _ (says-span L first F n)
+      (λ fits. call-by (ltb mostRuns (length (runsAfterI s (limitOf d)))) 14 (drop 7 rs) s _
       (says-runs L first F (arrival (a .fates) (base + d)) (limitOf d) (arrival-listed F d (sym (follows-has F d) ∙ new) (leb-false (half L) (floorI s + d) fits)))
       (λ _. call-by (leb mostRecords (length (a .records))) 15 [] s _ (says-at-most mostRecords (length (a .records)))
       (λ _. refl))))
 
-  -- 9, 10, 11, and then by its packet
+  -- 9, 10, 18, 11, and then by its packet
   arrive-given : (n p : ℕ) → Given (arrivalRefusals L first a base n p) (K.arrive k n p .answer)
   arrive-given n p =
       let rs = arrivalRefusals L first a base n p in
       call-by (a .final) 9 (drop 1 rs) k _ (says-holds refl)
       (λ _. call-by (not (ltb n (modulusOf L) and ltb p (pdcps L))) 10 (drop 2 rs) k _ (says-number L n p)
-      (λ numbers. call-by (beforeBase (modulusOf L) (numberOf L first base) n) 11 (drop 3 rs) k _ (says-at-most (half L) (forwardFrom L first base n))
-      (λ late. by numbers (leb-false (half L) (forwardFrom L first base n) late))))
+      (λ numbers. side-given k n p (drop 4 rs) (liesFrom L first base n) (λ on. by numbers (not-before L (numberOf L first base) n on))))
     where
       d : ℕ
       d = forwardFrom L first base n
 
-      at : n < modulusOf L → d < half L → K.arriveAt k n p (K.placeOf k d) d ≡ imageAfter L first (arriveI (half L) s p (placeI s (base + d)) d)
+      at : n < modulusOf L → d < half L → K.arriveOn k n p ≡ imageAfter L first (arriveI (half L) s p (placeI s (base + d)) d)
       at small near =
-          ap (λ (m : ℕ). K.arriveAt k m p (K.placeOf k d) d) (sym (lands (modulusOf L) first (positive L) base n small))
-          ∙ image-arrive-at L first s (follows-reach F) d p near
+          ap (λ (m : ℕ). K.arriveOn k m p) (sym (lands (modulusOf L) first (positive L) base n small))
+          ∙ image-arrive-on L first s (follows-reach F) d p near
 
-      by : not (ltb n (modulusOf L) and ltb p (pdcps L)) ≡ false → d < half L → Given (drop 3 (arrivalRefusals L first a base n p)) (K.arriveAt k n p (K.placeOf k d) d .answer)
+      by : not (ltb n (modulusOf L) and ltb p (pdcps L)) ≡ false → d < half L → Given (drop 4 (arrivalRefusals L first a base n p)) (K.arriveOn k n p .answer)
       by numbers near =
           let small = ltb-true n (modulusOf L) (and-true (ltb n (modulusOf L)) (ltb p (pdcps L)) (not-false (ltb n (modulusOf L) and ltb p (pdcps L)) numbers) .0) in
-          subst (λ (x : After K.Keeper ℕ). Given (drop 3 (arrivalRefusals L first a base n p)) (x .answer)) (sym (at small near)) (arrive-at-given n p small near)
+          subst (λ (x : After K.Keeper ℕ). Given (drop 4 (arrivalRefusals L first a base n p)) (x .answer)) (sym (at small near)) (arrive-at-given n p small near)
 
   -- 9, 17, 14
   expire-given : Given (expiryRefusals a) (K.expire k .answer)

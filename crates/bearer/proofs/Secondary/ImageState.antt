@@ -2,11 +2,11 @@
 -- each distance, place, gap and run of specs/Keeper.antt is that of the machine on packet indexes (Index.antt).
 -- Assumes nothing.
 use mathlib.Core.Path.{_≡_, refl, sym, _∙_, ap, ap₂}
-use mathlib.Core.Bool.{true}
+use mathlib.Core.Bool.{Bool, true}
 use mathlib.Core.List.{List, [], _∷_, _++_, map, map-map, map-append}
 use Prim.Native.Nat.{ℕ, zero, suc, _+_, _-_, _%_, _≤_, _<_, max}
 use native.Mathlib.Omega.{arith}
-use borrow.Author.Tests.{leb-true}
+use borrow.Author.Tests.{leb-true, lt-ltb, le-ltb}
 use lib.Dec.{ltb, leb, eqb}
 use lib.ListN.{length, getD, drop, length-map}
 use Rattle.basics.proofs.Choices.{eqb-alike, choice}
@@ -15,19 +15,21 @@ use Rattle.circle.specs.Circle.{forward}
 use Rattle.circle.specs.Lengths.{modulusOf, half}
 use Rattle.frame_layout.specs.Frames.{Range}
 use Rattle.bearer.specs.Bearer.{window, mostRuns}
-use Rattle.bearer.specs.Losses.{Gap, firstBehind, fromOn, frontOf, topOf, offsets, fromBase, gaps, lowest, runOf, joined, withRuns}
+use Rattle.bearer.specs.Losses.{Gap, firstBehind, aheadOf, fromOn, frontOf, topOf, offsets, fromBase, gaps, lowest, runOf, joined, withRuns}
 use Rattle.bearer.specs.Keeper as K
 use Rattle.bearer.specs.Keeper.{limitOf}
-use Rattle.bearer.specs.Packets.{numberOf, Each}
+use Rattle.bearer.specs.Packets.{numberOf, Rising, Each}
 use Rattle.bearer.specs.Account.{Held, runAt, indexes}
 use Rattle.bearer.specs.KeeperMeaning.{recordAt}
-use Rattle.bearer.proofs.Lists.Mapped.{each-so, each-both, each-drop, each-at, each-map, each-behind, map-alike, front-alike, Below, gaps-below}
-use Rattle.bearer.proofs.Lists.Numbers.{whole, positive, onward-is, to-later, same-packet, same-number, behind-is, past-is, from-on}
+use Rattle.bearer.proofs.Lists.Mapped.{each-so, each-both, each-drop, each-at, each-map, each-behind, front-within, map-alike, front-alike, Below, gaps-below}
+use Rattle.bearer.proofs.Lists.Elements.{each-there, there-each, rising-head, endsIn, ends-in, ends-past}
+use Rattle.bearer.proofs.Lists.Numbers.{whole, positive, onward-is, to-later, same-packet, same-number, ahead-is, from-is, behind-is, beyond-is}
 use Rattle.bearer.proofs.Secondary.Index.{Indexed, image, firstBack, froms, floorI, placeI, hasI, pastBase, aboveI, givenUpI, gapAt, joinedI, withRunsI, runsAfterI, baseAfterI, arrivedBaseI, topI}
 
--- All packets of a state lie within half the circle of base: none further behind, no record as far ahead. Runs hold packets
--- before base only, and only records before base are confirmed.
+-- All packets of a state lie within half the circle of base: none further behind, no record as far ahead. Records are in sending order. Runs
+-- hold packets before base only, and only records before base are confirmed.
 pub record InReach (L : ℕ) (a : Indexed) : Type 0 where
+  pub rising : Rising (indexes (a .records))
   pub floor-runs : Each (λ (g : Gap). a .base ≤ g .from + half L) (a .runs)
   pub floor-records : Each (λ (h : Held). a .base ≤ h .index + half L) (a .records)
   pub records-ahead : Each (λ (h : Held). h .index < a .base + half L) (a .records)
@@ -65,16 +67,27 @@ module _ (L first base : ℕ) where
   first-behind-is [] near = refl
   first-behind-is (j ∷ js) near = behind-is (modulusOf L) first (positive L) (whole L) base j (near .0 .0) (near .0 .1)
 
+  -- no packet is further behind base than the first
+  first-furthest : (js : List ℕ) → Rising js → Each (λ (j : ℕ). base ≤ j + firstBack base js) js
+  first-furthest [] r = tt
+  first-furthest (j ∷ js) r = (omega arith, there-each (λ (i : ℕ). base ≤ i + (base - j)) js (λ i t. let l = rising-head j js r i t in omega arith))
+
   top-of-is : (js : List ℕ) → Each (Near (half L) base) js → topOf (modulusOf L) (numberOf L first base) (map (numberOf L first) js) ≡ topI base js
   top-of-is [] near = refl
-  top-of-is (j ∷ []) near = past-is (modulusOf L) first (positive L) (whole L) base j (near .0 .0) (near .0 .1)
+  top-of-is (j ∷ []) near = beyond-is (modulusOf L) first (positive L) (whole L) base j (near .0 .0) (near .0 .1)
   top-of-is (j ∷ i ∷ is) near = top-of-is (i ∷ is) (near .1)
 
-  front-is : (c m : ℕ) → m ≡ base + c → (js : List ℕ) → Each (Near (half L) base) js
-      → frontOf (fromOn (modulusOf L) (numberOf L first base) c) (map (numberOf L first) js) ≡ frontOf (leb m) js
-  front-is c m e js near =
-      front-alike (numberOf L first) (fromOn (modulusOf L) (numberOf L first base) c) (leb m) js
-      (each-so js (λ j n. from-on (modulusOf L) first (positive L) (whole L) base j (n .0) (n .1) c m e) near)
+  -- where the last packets begin that all lie ahead of base
+  front-ahead : (js : List ℕ) → Each (Near (half L) base) js → frontOf (aheadOf (modulusOf L) (numberOf L first base)) (map (numberOf L first) js) ≡ frontOf (ltb base) js
+  front-ahead js near =
+      front-alike (numberOf L first) (aheadOf (modulusOf L) (numberOf L first base)) (ltb base) js
+      (each-so js (λ j n. ahead-is (modulusOf L) first (positive L) (whole L) base j (n .0) (n .1)) near)
+
+  -- ... or are base
+  front-from : (js : List ℕ) → Each (Near (half L) base) js → frontOf (fromOn (modulusOf L) (numberOf L first base)) (map (numberOf L first) js) ≡ frontOf (leb base) js
+  front-from js near =
+      front-alike (numberOf L first) (fromOn (modulusOf L) (numberOf L first base)) (leb base) js
+      (each-so js (λ j n. from-is (modulusOf L) first (positive L) (whole L) base j (n .0) (n .1)) near)
 
   -- the distances of the last packets, all at or past base
   offsets-are : (m : ℕ) → base ≤ m → (js : List ℕ) → Each (Near (half L) base) js
@@ -154,16 +167,25 @@ module _ (L first : ℕ) (a : Indexed) (reach : InReach L a) where
       (ap (firstBehind (modulusOf L) (numberOf L first (a .base))) (starts-are L first (a .runs)) ∙ first-behind-is L first (a .base) (froms (a .runs)) near-runs)
       (ap (firstBehind (modulusOf L) (numberOf L first (a .base))) (held-are L first (a .records)) ∙ first-behind-is L first (a .base) (indexes (a .records)) near-records)
 
-  pub place-is : (d : ℕ) → K.placeOf (image L first a) d ≡ placeI a (a .base + d)
-  place-is d =
-      ap (frontOf (fromOn (modulusOf L) (numberOf L first (a .base)) (suc d))) (held-are L first (a .records))
-      ∙ front-is L first (a .base) (suc d) (suc (a .base + d)) (omega arith) (indexes (a .records)) near-records
+  -- where no packet is half the circle behind the packet d past base, its place is that of its index
+  pub place-is : (d : ℕ) → floorI a + d < half L → K.placeOf (image L first a) (numberOf L first (a .base + d)) ≡ placeI a (a .base + d)
+  place-is d fits =
+      ap (frontOf (aheadOf (modulusOf L) (numberOf L first (a .base + d)))) (held-are L first (a .records))
+      ∙ front-ahead L first (a .base + d) (indexes (a .records)) near-it
+    where
+      back : ℕ
+      back = firstBack (a .base) (indexes (a .records))
+
+      near-it : Each (Near (half L) (a .base + d)) (indexes (a .records))
+      near-it =
+          each-so (indexes (a .records)) (λ j n. (omega arith, omega arith))
+          (each-both (λ (j : ℕ). a .base ≤ j + back) (Near (half L) (a .base)) (indexes (a .records)) (first-furthest L first (a .base) (indexes (a .records)) (reach .rising)) near-records)
 
   above-is : K.above (image L first a) ≡ aboveI a
   above-is =
       ap (λ (ns : List ℕ). offsets (modulusOf L) (numberOf L first (a .base)) (fromBase (modulusOf L) (numberOf L first (a .base)) ns)) (held-are L first (a .records))
       ∙ ap (λ (k : ℕ). offsets (modulusOf L) (numberOf L first (a .base)) (drop k (map (numberOf L first) (indexes (a .records)))))
-      (front-is L first (a .base) 0 (a .base) (omega arith) (indexes (a .records)) near-records)
+      (front-from L first (a .base) (indexes (a .records)) near-records)
       ∙ offsets-are L first (a .base) (a .base) (omega arith) (indexes (a .records)) near-records
 
   pub given-up-is : (l : ℕ) → K.givenUp (image L first a) l ≡ givenUpI a l
@@ -188,6 +210,40 @@ module _ (L first : ℕ) (a : Indexed) (reach : InReach L a) where
       ap (λ (ns : List ℕ). eqb (getD ns p 0) (numberOf L first (a .base + d))) (held-are L first (a .records))
       ∙ ap (λ (n : ℕ). eqb n (numberOf L first (a .base + d))) (getD-within (numberOf L first) (indexes (a .records)) p 0 0 inside)
       ∙ same-number (modulusOf L) first (positive L) j (a .base + d) (omega (arith, whole L)) (omega (arith, whole L))
+
+  -- whether it has a record is found at its place in any case
+  pub has-at-place : (d : ℕ) → d < half L
+      → K.hasRecord (image L first a) (numberOf L first (a .base + d)) (K.placeOf (image L first a) (numberOf L first (a .base + d))) ≡ hasI a (a .base + d) (placeI a (a .base + d))
+  has-at-place d h =
+      has-is d (K.placeOf (image L first a) n) h within
+      ∙ ap (endsIn js i) place-found
+      ∙ ends-in is-ahead js i (reach .rising) (ahead-packet i (omega arith, omega arith) ∙ le-ltb i i (omega arith))
+      (λ j t l. ahead-packet j (let near = each-there (Near (half L) (a .base)) js near-records j t in (omega arith, omega arith)) ∙ lt-ltb i j l)
+      ∙ sym (ends-past js i (reach .rising))
+    where
+      i : ℕ
+      i = a .base + d
+
+      js : List ℕ
+      js = indexes (a .records)
+
+      n : ℕ
+      n = numberOf L first i
+
+      -- a packet's number lies ahead of it
+      is-ahead : ℕ → Bool
+      is-ahead j = aheadOf (modulusOf L) n (numberOf L first j)
+
+      ahead-packet : (j : ℕ) → Near (half L) i j → is-ahead j ≡ ltb i j
+      ahead-packet j near = ahead-is (modulusOf L) first (positive L) (whole L) i j (near .0) (near .1)
+
+      place-found : K.placeOf (image L first a) n ≡ frontOf is-ahead js
+      place-found =
+          ap (frontOf (aheadOf (modulusOf L) n)) (held-are L first (a .records))
+          ∙ front-alike (numberOf L first) (aheadOf (modulusOf L) n) is-ahead js (there-each (λ (j : ℕ). is-ahead j ≡ is-ahead j) js (λ j t. refl))
+
+      within : K.placeOf (image L first a) n ≤ length (a .records)
+      within = omega (arith, place-found, front-within is-ahead js, length-map (a .records) (λ (x : Held). x .index))
 
   pub many-runs-are : (l : ℕ) → l ≤ half L → ltb mostRuns (length (K.runsAfter (image L first a) l)) ≡ ltb mostRuns (length (runsAfterI a l))
   many-runs-are l h =

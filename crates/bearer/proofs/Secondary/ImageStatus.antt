@@ -4,18 +4,17 @@
 use mathlib.Core.Path.{_≡_, refl, sym, _∙_, ap}
 use mathlib.Core.Bool.{Bool, true, false, not}
 use mathlib.Core.List.{List, [], _∷_, map, map-map}
-use Prim.Native.Nat.{ℕ, zero, suc, _+_, _-_, _≤_, _<_}
+use Prim.Native.Nat.{ℕ, zero, suc, _+_, _≤_, _<_}
 use native.Mathlib.Omega.{arith}
 use borrow.Author.Tests.{ltb-true, leb-false, eqb-true, not-false}
 use lib.Dec.{ltb, leb, eqb}
 use lib.ListN.{length, getD, take, drop, set, length-map}
-use Rattle.basics.specs.Basics.{if_then_else_, _and_, _or_, done, all}
-use Rattle.basics.proofs.Choices.{or-false, leb-alike}
+use Rattle.basics.specs.Basics.{if_then_else_, _and_, done}
+use Rattle.basics.proofs.Choices.{or-false}
 use Rattle.basics.proofs.Lists.{map-take, map-drop, map-set, getD-within}
-use Rattle.circle.specs.Circle.{forward}
 use Rattle.circle.specs.Lengths.{modulusOf, half}
 use Rattle.frame_layout.specs.Frames.{Range, mostRanges}
-use Rattle.bearer.specs.Losses.{Gap, beforeBase}
+use Rattle.bearer.specs.Losses.{Gap, before}
 use Rattle.bearer.specs.Keeper as K
 use Rattle.bearer.specs.Keeper.{_with-reported_, _with-closed_, _with-runs_, _with-records_}
 use Rattle.bearer.specs.Packets.{numberOf, inRanges, Each}
@@ -23,7 +22,7 @@ use Rattle.bearer.specs.Account.{Held, runAt, packetsOf}
 use Rattle.bearer.specs.KeeperMeaning.{recordAt}
 use Rattle.bearer.proofs.Lists.Mapped.{each-so, each-both, each-drop, each-take, each-at, runWith-alike}
 use Rattle.bearer.proofs.Lists.RunNumbers.{Short, runs-expand}
-use Rattle.bearer.proofs.Lists.Numbers.{whole, positive, to-later, before-base}
+use Rattle.bearer.proofs.Lists.Numbers.{whole, positive, before-is}
 use Rattle.bearer.proofs.Answers.Accepted.{same-state, not-refused}
 use Rattle.bearer.proofs.Secondary.Index.{Indexed, image, noHeld, confirmedI, mayGoI, letGoI, deliveredI, highestI, reportedI}
 use Rattle.bearer.proofs.Secondary.ImageState.{InReach, Listed, listed-runs}
@@ -65,13 +64,13 @@ module _ (L first : ℕ) (a : Indexed) (reach : InReach L a) where
       ∙ map-set (recordAt L first) (a .records) p (deliveredI (getD (a .records) p noHeld))
 
   before-at : (n p : ℕ) → p < length (a .records) → numberOf L first (getD (a .records) p noHeld .index) ≡ n
-      → beforeBase (modulusOf L) (numberOf L first (a .base)) n ≡ true → getD (a .records) p noHeld .index < a .base
+      → before (modulusOf L) (numberOf L first (a .base)) n ≡ true → getD (a .records) p noHeld .index < a .base
   before-at n p h bears e =
       let i : ℕ = getD (a .records) p noHeld .index in
       let lo : a .base ≤ i + half L = each-at (λ (x : Held). a .base ≤ x .index + half L) (a .records) p noHeld h (reach .floor-records) in
       let hi : i < a .base + half L = each-at (λ (x : Held). x .index < a .base + half L) (a .records) p noHeld h (reach .records-ahead) in
       ltb-true i (a .base)
-      (sym (before-base (modulusOf L) first (positive L) (whole L) (a .base) i lo hi) ∙ ap (beforeBase (modulusOf L) (numberOf L first (a .base))) bears ∙ e)
+      (sym (before-is (modulusOf L) first (positive L) (whole L) (a .base) i lo hi) ∙ ap (before (modulusOf L) (numberOf L first (a .base))) bears ∙ e)
 
   pub image-confirm : (n : ℕ) → K.confirm (image L first a) n .answer ≡ done tt → Confirms L first a n
   image-confirm n e =
@@ -81,7 +80,7 @@ module _ (L first : ℕ) (a : Indexed) (reach : InReach L a) where
       let t10 = not-refused (not (ltb n (modulusOf L))) _ k _ tt (t9 .1) in
       let t16 = not-refused (leb (length (K.held k)) p) _ k _ tt (t10 .1) in
       let last = not-refused (K.notNow k n p) _ k _ tt (t16 .1) in
-      let before = not-false (beforeBase (modulusOf L) (k .base) n) (or-false (not (beforeBase (modulusOf L) (k .base) n)) _ (last .0) .0) in
+      let lies-before = not-false (before (modulusOf L) (k .base) n) (or-false (not (before (modulusOf L) (k .base) n)) _ (last .0) .0) in
       let found : p < length (K.held k) = leb-false (length (K.held k)) p (t16 .0) in
       let within : p < length (a .records) = simp length-map at found in
       let bears : numberOf L first (getD (a .records) p noHeld .index) ≡ n = sym (held-at p within) ∙ index-of-at n (K.held k) found in
@@ -89,7 +88,7 @@ module _ (L first : ℕ) (a : Indexed) (reach : InReach L a) where
         place = p;
         within = within;
         bears = bears;
-        before = before-at n p within bears before;
+        before = before-at n p within bears lies-before;
         state-is =
             same-state (t9 .2 ∙ t10 .2 ∙ t16 .2 ∙ last .2)
             ∙ ap (λ (rs : List K.Record). k with-records rs) (confirmed-is p within);
@@ -116,17 +115,10 @@ module _ (L first : ℕ) (a : Indexed) (reach : InReach L a) where
   may-go-is [] near h c = refl
   may-go-is (x ∷ xs) near h c = by (h .confirmed) (c .1)
     where
-      behind : (j : ℕ) → j < a .base → a .base ≤ j + half L → forward (modulusOf L) (numberOf L first j) (numberOf L first (a .base)) ≡ a .base - j
-      behind j before floor = to-later (modulusOf L) first (positive L) j (a .base) (omega arith) (omega (arith, whole L, positive L))
-
       by : (t : Bool) → (t ≡ true → h .index < a .base)
-          → (t and ltb (forward (modulusOf L) (numberOf L first (x .from)) (numberOf L first (a .base))) (forward (modulusOf L) (numberOf L first (h .index)) (numberOf L first (a .base))))
-          ≡ (t and ltb (h .index) (x .from))
-      by true before =
-          let inside : h .index < a .base = before refl in
-          rw (behind (x .from) (omega arith) (near .0 .0), behind (h .index) inside (c .0))
-          (leb-alike (suc (a .base - x .from)) (a .base - h .index) (suc (h .index)) (x .from) (omega arith) (omega arith))
-      by false before = refl
+          → (t and before (modulusOf L) (numberOf L first (x .from)) (numberOf L first (h .index))) ≡ (t and ltb (h .index) (x .from))
+      by true inside = let l = inside refl in before-is (modulusOf L) first (positive L) (whole L) (x .from) (h .index) (omega arith) (omega arith)
+      by false inside = refl
 
   let-go-is : K.letGo (image L first a) ≡ letGoI a
   let-go-is =

@@ -16,6 +16,7 @@ use Rattle.bearer.specs.Keeper.{Keeper, limitOf, runWith}
 use Rattle.bearer.specs.Packets.{numberOf}
 use Rattle.bearer.specs.Account.{Held, runAt, indexes}
 use Rattle.bearer.specs.KeeperMeaning.{recordAt}
+use Rattle.bearer.proofs.Lists.Elements.{endsIn}
 
 -- the secondary's end on indexes
 pub record Indexed : Type 0 where
@@ -101,8 +102,7 @@ abbrev pub placeI : Indexed → ℕ → ℕ
 placeI a i = frontOf (λ (j : ℕ). ltb i j) (indexes (a .records))
 
 abbrev pub hasI : Indexed → ℕ → ℕ → Bool
-hasI a i zero = false
-hasI a i (suc p) = eqb (getD (indexes (a .records)) p 0) i
+hasI a i p = endsIn (indexes (a .records)) i p
 
 -- how far indexes are past base
 abbrev pub pastBase : ℕ → List ℕ → List ℕ

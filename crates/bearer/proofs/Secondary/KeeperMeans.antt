@@ -5,15 +5,15 @@ use mathlib.Core.Path.{_≡_, refl, sym, _∙_, ap, subst}
 use mathlib.Core.Bool.{Bool, false, not}
 use mathlib.Core.List.{List, _++_}
 use Prim.Native.Nat.{ℕ, _+_, _<_}
-use borrow.Author.Tests.{ltb-true, leb-false, not-false}
+use borrow.Author.Tests.{ltb-true, not-false}
 use lib.Dec.{ltb}
 use lib.ListN.{length, getD, drop}
 use Rattle.basics.specs.Basics.{_and_, done}
 use Rattle.basics.proofs.Choices.{and-true}
 use Rattle.circle.specs.Circle.{forward}
+use Rattle.circle.specs.Sides.{lies}
 use Rattle.circle.specs.Lengths.{isLong, modulusOf, half, pdcps, pdcpBefore}
 use Rattle.frame_layout.specs.Frames.{Status, statusOctets}
-use Rattle.bearer.specs.Losses.{beforeBase}
 use Rattle.bearer.specs.Keeper as K
 use Rattle.bearer.specs.Rule.{arrival, expiry, Lowest}
 use Rattle.bearer.specs.Packets.{numberOf, In}
@@ -21,13 +21,13 @@ use Rattle.bearer.specs.Account.{Held, Account, begun, indexes, arriving
 use Rattle.bearer.specs.KeeperMeaning.{packetAt, Reached, opened as opens, arrived, expired, confirmed, reported, Means, KeeperMeans, ArrivalsCount, ExpiriesCount, StatusesSay}
 use Rattle.bearer.proofs.Lists.Mapped.{each-at}
 use Rattle.bearer.proofs.Lists.Elements.{each-in}
-use Rattle.bearer.proofs.Lists.Numbers.{positive, lands}
+use Rattle.bearer.proofs.Lists.Numbers.{positive, not-before, lands}
 use Rattle.bearer.proofs.Answers.Accepted.{same-answer, same-state, not-refused, opened}
 use Rattle.bearer.proofs.Answers.Reported.{reports, reported-state, reported-frame}
 use Rattle.bearer.proofs.Secondary.Open.{one-lowest}
 use Rattle.bearer.proofs.Secondary.Index.{Indexed, image, placeI, newHeld, arrivedI, expiredI, noHeld, confirmedI, reportedI}
 use Rattle.bearer.proofs.Secondary.ImageState.{Near, one-packet, near-held}
-use Rattle.bearer.proofs.Secondary.Image.{image-fresh, image-arrive, image-expire}
+use Rattle.bearer.proofs.Secondary.Image.{image-fresh, went-on, image-arrive, image-expire}
 use Rattle.bearer.proofs.Secondary.ImageStatus.{image-confirm, image-status}
 use Rattle.bearer.proofs.Secondary.Follows.{Follows, follows-start}
 use Rattle.bearer.proofs.Secondary.FollowsArrival.{follows-arrived}
@@ -67,14 +67,13 @@ arrives L first a n p c e =
     let k = image L first a in
     let shut = not-refused (a .closed) _ k _ c e in
     let bad = not-refused (not (ltb n (modulusOf L) and ltb p (pdcps L))) _ k _ c (shut .1) in
-    let late = not-refused (beforeBase (modulusOf L) (numberOf L first (a .base)) n) _ k _ c (bad .1) in
+    let on = went-on k n p c (lies (modulusOf L) (numberOf L first (a .base)) n) (bad .1) in
     let good = and-true (ltb n (modulusOf L)) (ltb p (pdcps L)) (not-false (ltb n (modulusOf L) and ltb p (pdcps L)) (bad .0)) in
     let small : n < modulusOf L = ltb-true n (modulusOf L) (good .0) in
-    let d = forward (modulusOf L) (numberOf L first (a .base)) n in
     record {
       open-end = shut .0;
       number-is = sym (lands (modulusOf L) first (positive L) (a .base) n small);
-      near = leb-false (half L) d (late .0);
+      near = not-before L (numberOf L first (a .base)) n on;
       fits = ltb-true p (pdcps L) (good .1);
     }
 

@@ -17,7 +17,7 @@ use Rattle.basics.proofs.Choices.{tested, contrary, order, or-true, or-left, or
 use Rattle.basics.proofs.Refusals.{Says, says-as, says-below, says-at-most}
 use Rattle.circle.specs.Lengths.{modulusOf, half}
 use Rattle.bearer.specs.Bearer.{mostRuns}
-use Rattle.bearer.specs.Losses.{Gap, beforeBase}
+use Rattle.bearer.specs.Losses.{Gap, before}
 use Rattle.bearer.specs.Keeper as K
 use Rattle.bearer.specs.Rule.{Fates, isIn, highest}
 use Rattle.bearer.specs.Packets.{forwardFrom, numberOf, In, Rising, Each}
@@ -27,7 +27,7 @@ use Rattle.bearer.specs.Refusals.{Bears, floorOf, SpanTooLong, TooManyRu
 use Rattle.bearer.proofs.Lists.Mapped.{each-at}
 use Rattle.bearer.proofs.Lists.Elements.{in-none, in-head, in-tail, in-cons, rising-tail}
 use Rattle.bearer.proofs.Lists.Some.{some-so, some-both, some-at, some-never}
-use Rattle.bearer.proofs.Lists.Numbers.{whole, positive, before-base}
+use Rattle.bearer.proofs.Lists.Numbers.{whole, positive, before-is}
 use Rattle.bearer.proofs.Secondary.Index.{image, noHeld, floorI, placeI, hasI, runsAfterI}
 use Rattle.bearer.proofs.Secondary.ImageState.{Near, one-packet, near-held}
 use Rattle.bearer.proofs.Secondary.ImageStatus.{index-of-at, record-at, held-at}
@@ -137,7 +137,7 @@ module _ (L first : ℕ) {base : ℕ} {a : Account} (F : Follows (half L) (index
     abbrev pub notToConfirm : Bool
     notToConfirm =
         leb (length numbers) place
-        or not (beforeBase (modulusOf L) (numberOf L first base) n)
+        or not (before (modulusOf L) (numberOf L first base) n)
         or getD (map (recordAt L first) (a .records)) place K.noRecord .confirmed
 
     lengths : length numbers ≡ length (a .records)
@@ -161,14 +161,14 @@ module _ (L first : ℕ) {base : ℕ} {a : Account} (F : Follows (half L) (index
       near-x : Near (half L) base (x .index)
       near-x = each-at (λ (h : Held). Near (half L) base (h .index)) (a .records) place noHeld inside near
 
-      before : beforeBase (modulusOf L) (numberOf L first base) n ≡ ltb (x .index) base
-      before =
-          ap (beforeBase (modulusOf L) (numberOf L first base)) (sym bears)
-          ∙ before-base (modulusOf L) first (positive L) (whole L) base (x .index) (near-x .0) (near-x .1)
+      lies-before : before (modulusOf L) (numberOf L first base) n ≡ ltb (x .index) base
+      lies-before =
+          ap (before (modulusOf L) (numberOf L first base)) (sym bears)
+          ∙ before-is (modulusOf L) first (positive L) (whole L) base (x .index) (near-x .0) (near-x .1)
 
       tests-are : notToConfirm ≡ (not (ltb (x .index) base) or x .confirmed)
       tests-are =
-          rw (lt-leb (length numbers) place (rw lengths inside), before, record-at L first (indexedOf base a) (follows-reach F) place inside)
+          rw (lt-leb (length numbers) place (rw lengths inside), lies-before, record-at L first (indexedOf base a) (follows-reach F) place inside)
 
       some-here : (P : Held → Type 0) → P x → Some (λ (h : Held). Bears L first n h × P h) (a .records)
       some-here P p = some-at (λ (h : Held). Bears L first n h × P h) (a .records) place noHeld inside (bears, p)

@@ -1,18 +1,21 @@
 -- `judge_number`: the tests are the machine's, in its order, and then its place. Assumes nothing.
 use mathlib.Core.Path.{_≡_, sym, _∙_, ap, subst}
 use mathlib.Core.Bool.{Bool, true}
-use Prim.Native.Nat.{ℕ, _/_, _<_}
+use mathlib.Core.List.{List}
+use mathlib.Core.Logic.{⊎-elim}
+use Prim.Native.Nat.{_<_}
 use native.Mathlib.Omega.{arith}
 use borrow.Author.Needs.{needs}
 use borrow.Author.Tests.{not-true, not-false}
-use Rattle.circle.specs.Circle.{forward}
+use Rattle.circle.specs.Sides.{lies}
+use Rattle.circle.specs.Answers.{sideIn}
+use Rattle.circle.specs.declared.Side as S
 use Rattle.circle.specs.Lengths.{modulus, pdcps, lengthIn}
-use Rattle.circle.proofs.Forms.{modulus-bounds, distance-below}
-use Rattle.bearer.specs.Bearer.{After}
-use Rattle.bearer.specs.Keeper.{Keeper}
+use Rattle.frame_layout.specs.Frames.{Range}
+use Rattle.bearer.specs.Keeper.{Record, arriveOn, arriveBy, arrive}
 use Rattle.keeper_state.specs.State.{isOpen, modulusIn, stateOf}
 use Rattle.keeper_judge.specs.Judgements.{ArrivalIs}
-use Rattle.keeper_judge.proofs.Arriving.{closed-arrival, bad-number, bad-pdcp, late, on-time}
+use Rattle.keeper_judge.proofs.Arriving.{closed-arrival, bad-number, bad-pdcp, by-side}
 use Rattle.keeper_judge.proofs.judge_number.Statement.{statement}
 use Rattle.keeper_judge.proofs.judge_number.Tie as tie
 
@@ -21,8 +24,8 @@ use Rattle.keeper_judge.proofs.judge_number.Tie as tie
 abbrev start : tie.After-modulus → tie.Start
 start c = c .before .before .before .before .before .before .before
 
-abbrev formed : tie.After-half → tie.After-modulus
-formed c = c .before .before .before .before .before
+abbrev formed : tie.After-lies → tie.After-modulus
+formed c = c .before .before .before .before
 
 -- ---- what is known there
 
@@ -35,21 +38,21 @@ modulus-is : (c : tie.After-modulus) → c .modulus .result ≡ modulusIn (start
 modulus-is c = c .modulus .ensures ∙ ap modulus (c .before .is-long .ensures)
 
 -- the number is one of the form
-good : (c : tie.After-half) → let a = start (formed c) .args in a .number < modulusIn (a .w)
-good c = omega (arith, modulus-is (formed c), c .before .before .before .before .if2 .left)
+good : (c : tie.After-lies) → let a = start (formed c) .args in a .number < modulusIn (a .w)
+good c = omega (arith, modulus-is (formed c), c .before .before .before .if2 .left)
 
 -- and the PDCP number one of its length
-fits : (c : tie.After-half) → let a = start (formed c) .args in a .pdcp < pdcps (lengthIn (a .w .bits))
-fits c = omega (arith, c .before .before .before .pdcps .ensures, c .before .before .if3 .left)
+fits : (c : tie.After-lies) → let a = start (formed c) .args in a .pdcp < pdcps (lengthIn (a .w .bits))
+fits c = omega (arith, c .before .before .pdcps .ensures, c .before .if3 .left)
 
--- how far the number is forward from base
-far : (c : tie.After-half) → let a = start (formed c) .args in c .before .distance .result ≡ forward (modulusIn (a .w)) (a .w .base) (a .number)
-far c =
+-- the machine goes by how the number lies to base, as the answer says
+by-answer : (c : tie.After-lies) (s : S.Side) → c .lies .result ≡ s → (runs : List Range) (records : List Record)
+    → let a = start (formed c) .args in arrive (stateOf (a .w) runs records) (a .number) (a .pdcp) ≡ arriveBy (stateOf (a .w) runs records) (a .number) (a .pdcp) (sideIn s)
+by-answer c s e runs records =
     let a = start (formed c) .args in
-    c .before .distance .ensures ∙ ap (λ (b : Bool). forward (modulus b) (a .w .base) (a .number)) (formed c .before .is-long .ensures)
-
-half-is : (c : tie.After-half) → c .half .result ≡ modulusIn (start (formed c) .args .w) / 2
-half-is c = c .half .ensures ∙ ap (λ (b : Bool). modulus b / 2) (formed c .before .is-long .ensures)
+    let side : lies (modulusIn (a .w)) (a .w .base) (a .number) ≡ sideIn s =
+    ap (λ (b : Bool). lies (modulus b) (a .w .base) (a .number)) (sym (formed c .before .is-long .ensures)) ∙ sym (c .lies .ensures) ∙ ap sideIn e in
+    by-side (a .w) runs records (a .number) (a .pdcp) (opened (formed c)) (good c) (fits c) (sideIn s) side
 
 -- ---- the needs
 
@@ -83,33 +86,43 @@ returns-3 c =
     λ runs records seen starts ends.
     bad-pdcp (a .w) runs records (a .number) (a .pdcp) (opened k) (omega (arith, modulus-is k, c .before .before .if2 .left)) (omega (arith, c .before .pdcps .ensures, c .if3 .taken))
 
-distance-requires : tie.Need-distance-requires
-distance-requires c κs = search needs
+lies-requires : tie.Need-lies-requires
+lies-requires c κs = search needs
 
-half-requires : tie.Need-half-requires
-half-requires c κs = search needs
+enum-told : tie.Need-enum-told
+enum-told c = search needs
+
+enum-told-2 : tie.Need-enum-told-2
+enum-told-2 c = search needs
+
+enum-told-3 : tie.Need-enum-told-3
+enum-told-3 c = search needs
+
+enum-told-4 : tie.Need-enum-told-4
+enum-told-4 c = search needs
 
 returns-4 : tie.Need-returns-4
-returns-4 c =
-    let h = c .before in
-    let a = start (formed h) .args in
-    λ runs records seen starts ends.
-    late (a .w) runs records (a .number) (a .pdcp) (opened (formed h)) (good h) (fits h) (h .before .distance .result) (far h) (omega (arith, half-is h, c .if4 .taken))
-
-judge-place-requires : tie.Need-judge-place-requires
-judge-place-requires c κs =
-    let k = formed (c .before) in
-    let a = start k .args in
-    let long = k .before .is-long .result in
-    omega (arith, c .before .before .distance .ensures, modulus-bounds long, distance-below long (a .w .base) (a .number))
+returns-4 c = λ runs records seen starts ends. by-answer (c .before .before) S.the-variants.Opposite (c .enum-told .given .1) runs records
 
 returns-5 : tie.Need-returns-5
-returns-5 c =
-    let h = c .before .before in
-    let a = start (formed h) .args in
+returns-5 c = λ runs records seen starts ends. by-answer (c .before .before) S.the-variants.Behind (c .enum-told2 .given .1) runs records
+
+judge-place-requires : tie.Need-judge-place-requires
+judge-place-requires c κs = search needs
+
+-- one that doesn't lie before base goes on
+goes-on : (c : tie.After-judge-place) (runs : List Range) (records : List Record)
+    → let a = start (formed (c .before .before)) .args in arrive (stateOf (a .w) runs records) (a .number) (a .pdcp) ≡ arriveOn (stateOf (a .w) runs records) (a .number) (a .pdcp)
+goes-on c runs records =
+    let k = c .before .before in
+    ⊎-elim (λ same. by-answer k S.the-variants.Same (same .1 .given .1) runs records)
+    (λ ahead. by-answer k S.the-variants.Ahead (ahead .1 .given .1) runs records) (c .before .match .came)
+
+returns-6 : tie.Need-returns-6
+returns-6 c =
+    let a = start (formed (c .before .before)) .args in
     λ runs records seen starts ends.
-    subst (λ (o : After Keeper ℕ). ArrivalIs (c .judge-place .result) (stateOf (a .w) runs records) (a .number) (a .pdcp) o)
-    (sym (on-time (a .w) runs records (a .number) (a .pdcp) (opened (formed h)) (good h) (fits h) (h .before .distance .result) (far h) (omega (arith, half-is h, c .before .if4 .left))))
+    subst (ArrivalIs (c .judge-place .result) (stateOf (a .w) runs records) (a .number) (a .pdcp)) (sym (goes-on c runs records))
     (c .judge-place .ensures runs records seen starts ends (a .pdcp))
 
 pub judge-number-spec : {M : Type 1} → statement M
@@ -123,8 +136,12 @@ judge-number-spec =
     returns-2
     pdcps-requires
     returns-3
-    distance-requires
-    half-requires
+    lies-requires
+    enum-told
     returns-4
+    enum-told-2
+    returns-5
+    enum-told-3
+    enum-told-4
     judge-place-requires
-    returns-5)
+    returns-6)

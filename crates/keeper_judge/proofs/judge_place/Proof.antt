@@ -1,16 +1,16 @@
 -- `judge_place`: the tests are the machine's, in its order; what an accepted arrival changes is what the machine changes. Assumes nothing.
-use mathlib.Core.Path.{_≡_, sym, _∙_, ap, ap₂}
+use mathlib.Core.Path.{_≡_, refl, sym, _∙_, ap}
 use mathlib.Core.Bool.{false}
 use mathlib.Core.List.{List}
-use Prim.Native.Nat.{ℕ, suc, _+_, _/_, _≤_, _<_}
-use native.Mathlib.Numerals.{add-one}
+use Prim.Native.Nat.{ℕ, _+_, _/_, _≤_, _<_}
 use native.Mathlib.Omega.{arith}
 use borrow.Author.Needs.{needs}
 use lib.ListN.{length}
-use Rattle.circle.proofs.Forms.{modulus-bounds}
+use Rattle.circle.specs.Circle.{forward}
+use Rattle.circle.proofs.Forms.{modulus-bounds, distance-below}
 use Rattle.circle.specs.Lengths.{modulus}
 use Rattle.frame_layout.specs.Frames.{Range, rangesOf, endsOf}
-use Rattle.bearer.specs.Losses.{fromOn, frontOf, placeIn, bearsBefore, floorBehind}
+use Rattle.bearer.specs.Losses.{aheadOf, placeIn, bearsBefore, floorBehind}
 use Rattle.bearer.specs.Keeper.{limitOf, baseArrived}
 use Rattle.keeper_loss.proofs.Ends.{first-below}
 use Rattle.bearer.proofs.Lists.Mapped.{front-within}
@@ -27,7 +27,7 @@ abbrev start : tie.After-front → tie.Start
 start c = c .before .before .before .before .before
 
 abbrev fronted : tie.After-floor → tie.After-front
-fronted c = c .before .before .before .before
+fronted c = c .before .before .before .before .before
 
 abbrev floored : tie.After-lost-below → tie.After-floor
 floored c = c .before .before .before
@@ -39,19 +39,28 @@ modulus-is : (c : tie.After-front) → modulus (c .before .is-long .result) ≡ 
 modulus-is c = ap modulus (c .before .is-long .ensures)
 
 -- the place is the machine's
-place-is : (c : tie.After-front) → let a = start c .args in c .front .result ≡ placeIn (modulusIn (a .w)) (a .w .base) (a .numbers .now) (a .distance)
+place-is : (c : tie.After-front) → let a = start c .args in c .front .result ≡ placeIn (modulusIn (a .w)) (a .numbers .now) (a .number)
 place-is c =
     let a = start c .args in
-    c .front .ensures ∙ ap₂ (λ (M d : ℕ). frontOf (fromOn M (a .w .base) d) (a .numbers .now)) (modulus-is c) (add-one (a .distance))
+    c .front .ensures ∙ ap (λ (M : ℕ). placeIn M (a .numbers .now) (a .number)) (modulus-is c)
 
 place-within : (c : tie.After-front) → c .front .result ≤ length (start c .args .numbers .now)
 place-within c =
     let a = start c .args in
-    omega (arith, place-is c, front-within (fromOn (modulusIn (a .w)) (a .w .base) (suc (a .distance))) (a .numbers .now))
+    omega (arith, place-is c, front-within (aheadOf (modulusIn (a .w)) (a .number)) (a .numbers .now))
 
 -- the number is not held
 new : (c : tie.After-floor) → let a = start (fronted c) .args in bearsBefore (a .numbers .now) (a .number) (fronted c .front .result) ≡ false
-new c = sym (c .before .before .before .has-record .ensures) ∙ c .before .before .if1 .left
+new c = let test = c .before .before .before in sym (test .before .has-record .ensures) ∙ test .if1 .left
+
+-- how far the number is forward from base
+abbrev distance : tie.After-floor → ℕ
+distance c = c .before .before .distance .result
+
+far : (c : tie.After-floor) → let a = start (fronted c) .args in distance c ≡ forward (modulusIn (a .w)) (a .w .base) (a .number)
+far c =
+    let a = start (fronted c) .args in
+    c .before .before .distance .ensures ∙ ap (λ (M : ℕ). forward M (a .w .base) (a .number)) (modulus-is (fronted c))
 
 -- half the circle, and the floor
 half-is : (c : tie.After-floor) → c .before .half .result ≡ modulusIn (start (fronted c) .args .w) / 2
@@ -63,23 +72,20 @@ floor-is c =
     c .floor .ensures ∙ ap (λ (M : ℕ). floorBehind M (a .w .base) (a .starts .now) (a .numbers .now)) (modulus-is (fronted c))
 
 -- the arrival is less than half the circle past the floor
-near : (c : tie.After-lost-below) → let a = start (fronted (floored c)) .args in floorBehind (modulusIn (a .w)) (a .w .base) (a .starts .now) (a .numbers .now) + a .distance < modulusIn (a .w) / 2
+near : (c : tie.After-lost-below) → let a = start (fronted (floored c)) .args in floorBehind (modulusIn (a .w)) (a .w .base) (a .starts .now) (a .numbers .now) + distance (floored c) < modulusIn (a .w) / 2
 near c = omega (arith, floor-is (floored c), half-is (floored c), c .before .before .if2 .left)
 
 -- what is lost
 losing : (c : tie.After-lost-below) (runs : List Range) → let a = start (fronted (floored c)) .args in endsOf runs ≡ a .ends .now → Losing (c .lost-below .result) (modulusIn (a .w)) (a .w .base) (a .numbers .now) runs
 losing c runs seen = rw (modulus-is (fronted (floored c))) at (c .lost-below .ensures .1 runs seen)
 
-limit-is : (c : tie.After-lost-below) → c .lost-below .result .limit ≡ limitOf (start (fronted (floored c)) .args .distance)
+limit-is : (c : tie.After-lost-below) → c .lost-below .result .limit ≡ limitOf (distance (floored c))
 limit-is c = c .lost-below .ensures .0 ∙ c .before .limit-of .ensures
 
 -- ---- the needs
 
 is-long-requires : tie.Need-is-long-requires
 is-long-requires c κs = search needs
-
-add-front : tie.Need-add-front
-add-front c = search needs
 
 front-requires : tie.Need-front-requires
 front-requires c κs = search needs
@@ -92,7 +98,10 @@ returns c =
     let k = c .before .before in
     let a = start k .args in
     λ runs records seen starts ends pdcp.
-    again (a .w) runs records (a .numbers .now) (a .starts .now) seen starts (a .number) pdcp (a .distance) (k .front .result) (place-is k) (sym (c .before .has-record .ensures) ∙ c .if1 .taken)
+    again (a .w) runs records (a .numbers .now) (a .starts .now) seen starts (a .number) pdcp _ (k .front .result) (place-is k) refl (sym (c .before .has-record .ensures) ∙ c .if1 .taken)
+
+distance-requires : tie.Need-distance-requires
+distance-requires c κs = search needs
 
 half-requires : tie.Need-half-requires
 half-requires c κs = search needs
@@ -105,7 +114,7 @@ add-if2 c =
     let a = start (fronted c) .args in
     let long = fronted c .before .is-long .result in
     let pos = modulus-bounds long .0 in
-    omega (arith, c .floor .ensures, modulus-bounds long, first-below (modulus long) (a .w .base) pos (a .numbers .now), first-below (modulus long) (a .w .base) pos (a .starts .now))
+    omega (arith, c .floor .ensures, c .before .before .distance .ensures, modulus-bounds long, distance-below long (a .w .base) (a .number), first-below (modulus long) (a .w .base) pos (a .numbers .now), first-below (modulus long) (a .w .base) pos (a .starts .now))
 
 returns-2 : tie.Need-returns-2
 returns-2 c =
@@ -113,7 +122,7 @@ returns-2 c =
     let at = fronted k in
     let a = start at .args in
     λ runs records seen starts ends pdcp.
-    span (a .w) runs records (a .numbers .now) (a .starts .now) seen starts (a .number) pdcp (a .distance) (at .front .result) (place-is at) (new k) (omega (arith, floor-is k, half-is k, c .if2 .taken))
+    span (a .w) runs records (a .numbers .now) (a .starts .now) seen starts (a .number) pdcp (distance k) (at .front .result) (place-is at) (far k) (new k) (omega (arith, floor-is k, half-is k, c .if2 .taken))
 
 limit-of-requires : tie.Need-limit-of-requires
 limit-of-requires c κs = search needs
@@ -128,7 +137,7 @@ returns-3 c =
     let at = fronted k in
     let a = start at .args in
     λ runs records seen starts ends pdcp.
-    many-runs (a .w) runs records (a .numbers .now) (a .starts .now) seen starts (a .number) pdcp (a .distance) (at .front .result) (place-is at) (new k) (near l)
+    many-runs (a .w) runs records (a .numbers .now) (a .starts .now) seen starts (a .number) pdcp (distance k) (at .front .result) (place-is at) (far k) (new k) (near l)
     (l .lost-below .result) (losing l runs ends) (limit-is l) (c .if3 .taken)
 
 returns-4 : tie.Need-returns-4
@@ -138,7 +147,7 @@ returns-4 c =
     let at = fronted k in
     let a = start at .args in
     λ runs records seen starts ends pdcp.
-    many-records (a .w) runs records (a .numbers .now) (a .starts .now) seen starts (a .number) pdcp (a .distance) (at .front .result) (place-is at) (new k) (near l)
+    many-records (a .w) runs records (a .numbers .now) (a .starts .now) seen starts (a .number) pdcp (distance k) (at .front .result) (place-is at) (far k) (new k) (near l)
     (l .lost-below .result) (losing l runs ends) (limit-is l) (c .before .if3 .left) (c .if4 .taken)
 
 -- what is lost reaches from base on, whatever is listed
@@ -151,7 +160,9 @@ arrived-base-requires : tie.Need-arrived-base-requires
 arrived-base-requires c κs =
     let l = c .before .before .before in
     let at = fronted (floored l) in
-    (place-within at, start at .pre, limit-is l, reaches l)
+    let a = start at .args in
+    let long = at .before .is-long .result in
+    (place-within at, omega (arith, floored l .before .before .distance .ensures, modulus-bounds long, distance-below long (a .w .base) (a .number)), limit-is l, reaches l)
 
 returns-5 : tie.Need-returns-5
 returns-5 c =
@@ -160,9 +171,9 @@ returns-5 c =
     let k = floored l in
     let at = fronted k in
     let a = start at .args in
-    let base = c .arrived-base .ensures ∙ ap (λ (M : ℕ). baseArrived M (a .w .base) (a .numbers .now) (at .front .result) (a .distance)) (modulus-is at) in
+    let base = c .arrived-base .ensures ∙ ap (λ (M : ℕ). baseArrived M (a .w .base) (a .numbers .now) (at .front .result) (distance k)) (modulus-is at) in
     λ runs records seen starts ends pdcp.
-    accepted (a .w) runs records (a .numbers .now) (a .starts .now) seen starts (a .number) pdcp (a .distance) (at .front .result) (place-is at) (new k) (near l)
+    accepted (a .w) runs records (a .numbers .now) (a .starts .now) seen starts (a .number) pdcp (distance k) (at .front .result) (place-is at) (far k) (new k) (near l)
     (l .lost-below .result) (losing l runs ends) (limit-is l) (tests .before .if3 .left) (tests .if4 .left) (c .arrived-base .result) base
 
 pub judge-place-spec : {M : Type 1} → statement M
@@ -170,10 +181,10 @@ judge-place-spec =
     tie.close
     (tie.spec
     is-long-requires
-    add-front
     front-requires
     has-record-requires
     returns
+    distance-requires
     half-requires
     floor-requires
     add-if2

@@ -41,7 +41,7 @@ M c = modulus (c .args .long)
 from-within : (c : tie.After-front) → c .front .result ≤ length (start c .args .numbers .now)
 from-within c =
     let a = start c .args in
-    omega (arith, c .front .ensures, front-within (fromOn (M (start c)) (a .base) 0) (a .numbers .now))
+    omega (arith, c .front .ensures, front-within (fromOn (M (start c)) (a .base)) (a .numbers .now))
 
 -- the numbers from there on are those
 from-is : (c : tie.After-front) → let a = start c .args in drop (c .front .result) (a .numbers .now) ≡ fromBase (M (start c)) (a .base) (a .numbers .now)
@@ -64,7 +64,7 @@ count-fits c =
       ap (λ (g : GivenUp). g .gaps) (tells c),
       gaps-count 0 (a .limit) (aboveBase (M s) (a .base) (a .numbers .now)),
       length-map from (forward (M s) (a .base)),
-      length-drop (frontOf (fromOn (M s) (a .base) 0) (a .numbers .now)) (a .numbers .now),
+      length-drop (frontOf (fromOn (M s) (a .base)) (a .numbers .now)) (a .numbers .now),
       s .good,
     )
 

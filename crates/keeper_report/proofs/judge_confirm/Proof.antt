@@ -10,7 +10,7 @@ use lib.ListN.{length, getD, take, length-take}
 use Rattle.basics.specs.Basics.{isSet}
 use Rattle.circle.specs.Lengths.{modulus}
 use Rattle.frame_layout.specs.Frames.{Range, rangesOf}
-use Rattle.bearer.specs.Losses.{beforeBase}
+use Rattle.bearer.specs.Losses.{before}
 use Rattle.bearer.specs.Keeper.{Record, noRecord, numbersOf}
 use Rattle.keeper_state.specs.State.{isOpen, modulusIn, listedIn, heldIn, recordsOf}
 use Rattle.keeper_state.proofs.Fronts.{numbers-are, mark-is}
@@ -71,13 +71,13 @@ there : (c : tie.After-is-before) → found c .index-of .result < length (found 
 there c = omega (arith, count (found c), c .before .if3 .left)
 
 -- whether it lies before base
-before-is : (c : tie.After-is-before) → let a = start (formed (held (found c))) .args in c .is-before .result ≡ beforeBase (modulusIn (a .w)) (a .w .base) (a .number)
+before-is : (c : tie.After-is-before) → let a = start (formed (held (found c))) .args in c .is-before .result ≡ before (modulusIn (a .w)) (a .w .base) (a .number)
 before-is c =
     let k = formed (held (found c)) in
     let a = start k .args in
-    c .is-before .ensures ∙ ap (λ (b : Bool). beforeBase (modulus b) (a .w .base) (a .number)) (k .before .is-long .ensures)
+    c .is-before .ensures ∙ ap (λ (b : Bool). before (modulus b) (a .w .base) (a .number)) (k .before .is-long .ensures)
 
-past : (c : tie.Else4) → let a = start (formed (held (found (c .before)))) .args in beforeBase (modulusIn (a .w)) (a .w .base) (a .number) ≡ true
+past : (c : tie.Else4) → let a = start (formed (held (found (c .before)))) .args in before (modulusIn (a .w)) (a .w .base) (a .number) ≡ true
 past c = sym (before-is (c .before)) ∙ not-false _ (c .if4 .left)
 
 -- its mark

@@ -1,4 +1,4 @@
--- `may_go`: confirmed, before base, and before the first run left out. Assumes nothing.
+-- `may_go`: confirmed, and before the first run left out. Assumes nothing.
 use borrow.Author.Tests.{eq-eqb, ne-eqb}
 use Rattle.circle.specs.Lengths.{modulus}
 use Rattle.frame_layout.specs.Frames.{mostRanges}
@@ -12,29 +12,26 @@ use Rattle.keeper_report.proofs.may_go.Tie as tie
 returns : tie.Need-returns
 returns c =
     let a = c .before .before .args in
-    rw (eq-eqb (a .mark) 0 (c .if1 .taken)) (sym (goes-not (modulus (a .long)) (a .base) (a .number) (drop mostRanges (a .starts .now))))
+    rw (eq-eqb (a .mark) 0 (c .if1 .taken)) (sym (goes-not (modulus (a .long)) (a .number) (drop mostRanges (a .starts .now))))
 
 returns-2 : tie.Need-returns-2
 returns-2 c =
     let a = c .before .before .before .args in
-    rw (ne-eqb (a .mark) 0 (c .before .if1 .left)) (sym (goes-all (modulus (a .long)) (a .base) (a .number) (a .starts .now) (c .if2 .taken)))
+    rw (ne-eqb (a .mark) 0 (c .before .if1 .left)) (sym (goes-all (modulus (a .long)) (a .number) (a .starts .now) (c .if2 .taken)))
 
-shared-slice-read-distance : tie.Need-shared-slice-read-distance
-shared-slice-read-distance c = search needs
+shared-slice-read-is-before : tie.Need-shared-slice-read-is-before
+shared-slice-read-is-before c = search needs
 
-distance-requires : tie.Need-distance-requires
-distance-requires c κs = search needs
-
-distance-requires-2 : tie.Need-distance-requires-2
-distance-requires-2 c κs = search needs
+is-before-requires : tie.Need-is-before-requires
+is-before-requires c κs = search needs
 
 returns-3 : tie.Need-returns-3
 returns-3 c =
-    let a = c .before .before .before .before .before .before .args in
-    rw (ne-eqb (a .mark) 0 (c .before .before .before .before .if1 .left), c .before .distance .ensures, c .distance2 .ensures)
-    (sym (goes-past (modulus (a .long)) (a .base) (a .number) (a .starts .now) (c .before .before .before .if2 .left)))
+    let a = c .before .before .before .before .before .args in
+    rw (ne-eqb (a .mark) 0 (c .before .before .before .if1 .left), c .is-before .ensures)
+    (sym (goes-past (modulus (a .long)) (a .number) (a .starts .now) (c .before .before .if2 .left)))
 
 pub may-go-spec : {M : Type 1} → statement M
 may-go-spec =
     tie.close
-    (tie.spec returns returns-2 shared-slice-read-distance distance-requires distance-requires-2 returns-3)
+    (tie.spec returns returns-2 shared-slice-read-is-before is-before-requires returns-3)

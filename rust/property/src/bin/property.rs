@@ -1,8 +1,10 @@
 //! Runs every property on the product.
 
-use property::bearer::{Bearer, openings, steps};
+use model::Opening;
+use property::bearer::{Bearer, Step, openings, steps};
 use property::scripts::{Aim, Script};
-use property::suite::Suite;
+use property::suite::{Suite, Verdict};
+use property::trace::Trace;
 use property::{codec, frames, keeper, replay, scripts};
 use proptest::collection::vec;
 use proptest::prelude::*;
@@ -218,23 +220,48 @@ fn replays(suite: &mut Suite, name: &str, programs: [&Path; 2], least: u64, long
     suite.covers(name, &table, &codec::all_numbers());
 }
 
+/// Half a circle of packets is sent, and the first comes again: within demand
+/// 3's bounds, and answered with 18.
+fn opposite_copy(
+    opening: Opening,
+    told: impl Fn(&Trace) -> Result<Vec<Vec<u8>>, String>,
+) -> Verdict {
+    let mut bearer = Bearer::new(opening);
+    bearer.flow(opening.numbers() as usize / 2)?;
+    let place = bearer.trace.lines.len();
+    bearer.make(&Step::ArriveOldest)?;
+    let answers = told(&bearer.trace)?;
+    match &answers[place][..] {
+        b"refused\t18" => Ok(()),
+        other => Err(format!("the copy is answered {}", other.escape_ascii())),
+    }
+}
+
 /// Demand 3 on the product's own traces.
 fn demand_3(suite: &mut Suite, programs: [&Path; 2], cases: u32) {
     let (lines, freed, lost) = (Cell::new(0), Cell::new(0), Cell::new(0));
+    let told = |trace: &Trace| {
+        let answers = replay::answers_alike(programs, &Script(trace.lines.clone()))?;
+        let tally = trace.check(&answers)?;
+        lines.set(lines.get() + answers.len());
+        freed.set(freed.get() + tally.freed);
+        lost.set(lost.get() + tally.reported);
+        Ok(answers)
+    };
     let bearers = (openings(6), vec(steps(), 1..120));
     suite.property("demand 3 on traces", cases, &bearers, |(opening, steps)| {
         let mut bearer = Bearer::new(*opening);
         for step in steps {
             bearer.make(step)?;
         }
-        let trace = bearer.trace;
-        let answers = replay::answers_alike(programs, &Script(trace.lines.clone()))?;
-        let tally = trace.check(&answers)?;
-        lines.set(lines.get() + answers.len());
-        freed.set(freed.get() + tally.freed);
-        lost.set(lost.get() + tally.reported);
-        Ok(())
+        told(&bearer.trace).map(|_| ())
     });
+    suite.property(
+        "demand 3, a copy opposite base",
+        1,
+        &openings(0),
+        |opening| opposite_copy(*opening, told),
+    );
     println!(
         "demand 3: {} calls, {} packets freed, {} reported lost",
         lines.get(),

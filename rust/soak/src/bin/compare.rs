@@ -34,7 +34,10 @@ fn run() -> Result<ExitCode, String> {
     let seed = options.value("seed", 1)?;
     let programs = [Path::new(one), Path::new(other)];
     let (reachable, outcome) = match kind.as_str() {
-        "replay" => (25, compare(programs, &mut Scripts::new(seed), lines)),
+        "replay" => (
+            Refusal::ALL.len(),
+            compare(programs, &mut Scripts::new(seed), lines),
+        ),
         "lister" => (6, compare(programs, &mut Frames::new(seed), lines)),
         _ => return Err(format!("there is no kind {kind}")),
     };

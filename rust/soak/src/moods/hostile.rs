@@ -158,7 +158,7 @@ fn spoil(script: &mut Script, ranges: &mut Vec<Range>, entries: &[Entry]) {
     }
 }
 
-/// Numbers off their circles, far away, or not confirmable.
+/// Numbers off their circles, far away, opposite base, or not confirmable.
 pub(super) fn numbers(script: &mut Script) {
     for _ in 0..script.rng.within(20..150) {
         let number = number(script);
@@ -178,19 +178,17 @@ pub(super) fn numbers(script: &mut Script) {
 
 fn number(script: &mut Script) -> u32 {
     let bearer = script.ends.bearer;
-    match script.rng.within(0..8) {
-        0 => bearer.numbers().size(),
-        1 => bearer.numbers().size() - 1,
+    let (circle, base) = (bearer.numbers(), script.ends.keeper.base());
+    match script.rng.within(0..9) {
+        0 => circle.size(),
+        1 => circle.size() - 1,
         2 => bearer.pdcp.size(),
         3 => bearer.pdcp.size() - 1,
         4 => u32::MAX,
         5 => script.rng.word(),
-        6 => script.rng.word() % bearer.numbers().size(),
-        _ => {
-            let back = script.rng.within(0..600);
-            let circle = bearer.numbers();
-            circle.step(script.ends.keeper.base(), circle.size() - back)
-        }
+        6 => script.rng.word() % circle.size(),
+        7 => circle.step(base, circle.half()),
+        _ => circle.step(base, circle.size() - script.rng.within(0..600)),
     }
 }
 

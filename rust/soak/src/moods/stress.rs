@@ -89,18 +89,19 @@ fn confirm_some(script: &mut Script, percent: u32) {
     }
 }
 
-/// Arrivals around the window, around half the circle from base and around
-/// half the circle from the oldest number held.
+/// Arrivals around the window, opposite base, near there and around half the
+/// circle from the oldest number held.
 pub(super) fn jumps(script: &mut Script) {
     for _ in 0..script.rng.within(5..60) {
         let half = script.ends.bearer.numbers().half();
         let near = script.rng.within(0..5);
-        let ahead = match script.rng.within(0..6) {
+        let ahead = match script.rng.within(0..7) {
             0 => 254 + near,
-            1 => half - 2 + near,
-            2 => (half - 2 + near).saturating_sub(floor_to_base(script)),
-            3 => script.rng.within(0..600),
-            4 => script.rng.within(0..half),
+            1 => half,
+            2 => half - 2 + near,
+            3 => (half - 2 + near).saturating_sub(floor_to_base(script)),
+            4 => script.rng.within(0..600),
+            5 => script.rng.within(0..half),
             _ => script.rng.within(0..2 * half),
         };
         script.arrive_ahead(ahead);
@@ -114,14 +115,13 @@ pub(super) fn jumps(script: &mut Script) {
 }
 
 fn floor_to_base(script: &Script) -> u32 {
-    let (circle, keeper) = (script.ends.bearer.numbers(), &script.ends.keeper);
-    let behind = |number| circle.forward(number, keeper.base());
-    let run = keeper.listed_runs().first().map(|run| behind(run.start));
-    let record = keeper.records().next().map(|record| behind(record.number));
-    let before_base = |&behind: &u32| behind <= circle.half();
+    let (circle, ends) = (script.ends.bearer.numbers(), &script.ends);
+    let run = ends.keeper.listed_runs().first().map(|run| run.start);
+    let record = ends.keeper.records().next().map(|record| record.number);
     run.into_iter()
         .chain(record)
-        .filter(before_base)
+        .filter(|&number| ends.is_before_base(number))
+        .map(|number| circle.forward(number, ends.keeper.base()))
         .max()
         .unwrap_or(0)
 }

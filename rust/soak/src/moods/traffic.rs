@@ -76,6 +76,9 @@ fn round(script: &mut Script, road: &Road) {
         script.send_next(skip);
     }
     arrivals(script, road);
+    if script.rng.once_in(20) {
+        script.arrive_opposite();
+    }
     if script.rng.chance(road.expired) {
         script.expire();
     }
@@ -118,13 +121,12 @@ fn arrivals(script: &mut Script, road: &Road) {
 }
 
 fn confirms(script: &mut Script, road: &Road) {
-    let base = script.ends.keeper.base();
-    let circle = script.ends.bearer.numbers();
-    let records = script.ends.keeper.records();
+    let ends = &script.ends;
+    let records = ends.keeper.records();
     let open: Vec<u32> = records
         .filter(|record| !record.confirmed)
         .map(|record| record.number)
-        .filter(|&number| circle.forward(base, number) >= circle.half())
+        .filter(|&number| ends.is_before_base(number))
         .collect();
     for number in open {
         if script.rng.chance(road.confirmed) {

@@ -29,6 +29,8 @@ pub const TWIN: u32 = 50;
 pub const TWIN_LATER: u64 = 10;
 /// In one millisecond of so many a copy from long ago arrives,
 pub const OLD_COPY: u32 = 400;
+/// in one of so many while no packet sent is open,
+pub const OLD_COPY_QUIET: u32 = 10;
 /// one in so many of them as old as demand 3 allows.
 pub const OLDEST_COPY: u32 = 4;
 /// One send in so many is followed by packets on the master's own radio.
@@ -176,6 +178,10 @@ pub fn road() -> Vec<Row> {
         (
             "copies from long ago",
             format!("in 1 ms of {OLD_COPY}, 1 in {OLDEST_COPY} of them as old as demand 3 allows"),
+        ),
+        (
+            "  while no packet sent is open",
+            format!("in 1 ms of {OLD_COPY_QUIET}; the oldest once more after the last send"),
         ),
         (
             "time back to the master",

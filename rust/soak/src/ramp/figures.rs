@@ -86,7 +86,7 @@ pub struct Figures {
     pub copies: u64,
     /// Packets that arrived after a later one.
     pub overtaken: u64,
-    /// Arrivals refused as late or repeated.
+    /// Arrivals refused as late, opposite or repeated.
     pub strays: u64,
     /// PDCP numbers used on the master's own radio.
     pub own_radio: u64,

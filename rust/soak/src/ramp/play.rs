@@ -3,9 +3,9 @@
 use super::Settings;
 use super::bench::{Bench, Trouble, held_by};
 use super::conditions::{
-    DESIRED_BELOW, GAP, HANDSET_AGAIN, HASTY, OLD_COPY, OLDEST_COPY, OWN_RADIO, OWN_RADIO_PACKETS,
-    ROLLOVER_DROPS, SHORT_BUFFER, SHORT_BUFFER_BELOW, SHOW, STATUS, STATUS_ARRIVALS, TAKE,
-    TAKE_MOST, TWIN_LATER, WIND_UP,
+    DESIRED_BELOW, GAP, HANDSET_AGAIN, HASTY, OLD_COPY, OLD_COPY_QUIET, OLDEST_COPY, OWN_RADIO,
+    OWN_RADIO_PACKETS, ROLLOVER_DROPS, SHORT_BUFFER, SHORT_BUFFER_BELOW, SHOW, STATUS,
+    STATUS_ARRIVALS, TAKE, TAKE_MOST, TWIN_LATER, WIND_UP,
 };
 use super::figures::Figures;
 use super::link::Mismatch;
@@ -213,7 +213,14 @@ impl Play {
         while let Some(packet) = pop_due(&mut self.road, self.now) {
             self.arrive(packet)?;
         }
-        if self.rng.once_in(OLD_COPY) {
+        let watch = &self.bench.pair.watch;
+        // With nothing open, the oldest that may arrive lies opposite base.
+        let often = if watch.base() == watch.sent_count() {
+            OLD_COPY_QUIET
+        } else {
+            OLD_COPY
+        };
+        if self.rng.once_in(often) {
             self.arrive_old_copy()?;
         }
         Ok(())
@@ -240,19 +247,18 @@ impl Play {
 
     /// A copy from long ago, up to the oldest that may still arrive.
     fn arrive_old_copy(&mut self) -> Result<(), Trouble> {
-        let sent = self.bench.pair.watch.sent_count();
-        let oldest = sent.saturating_sub(self.opening.numbers() as usize / 2);
-        if sent > 0 {
-            let exactly = self.rng.once_in(OLDEST_COPY);
-            let age = if exactly {
-                0
-            } else {
-                self.rng.place(sent - oldest)
-            };
-            self.figures.copies += 1;
-            self.arrive(oldest + age)?;
-        }
-        Ok(())
+        let exactly = self.rng.once_in(OLDEST_COPY);
+        let watch = &self.bench.pair.watch;
+        let Some(oldest) = watch.oldest_copy() else {
+            return Ok(());
+        };
+        let newer = if exactly {
+            0
+        } else {
+            self.rng.place(watch.sent_count() - oldest)
+        };
+        self.figures.copies += 1;
+        self.arrive(oldest + newer)
     }
 
     fn expire_old_gap(&mut self) -> Result<(), Trouble> {
@@ -360,6 +366,11 @@ impl Play {
         self.now += WIND_UP;
         self.arrive_due()?;
         self.expire()?;
+        // With nothing open any more, as in every pause.
+        if let Some(oldest) = self.bench.pair.watch.oldest_copy() {
+            self.figures.copies += 1;
+            self.arrive(oldest)?;
+        }
         while let Some(Reverse((_, packet))) = self.handset.pop() {
             let _ = self.bench.confirm(packet)?;
         }

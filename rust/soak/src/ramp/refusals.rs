@@ -6,11 +6,11 @@ use std::fmt::{self, Formatter};
 use x2u::Refusal::{
     self, BufferShort, Closed, FieldsCut, FinalTooEarly, FrameLength, HighestNotWaiting,
     HighestOutside, HighestTooLarge, Late, LedgerFull, ListCut, NotConfirmable, NotOurStatus,
-    NothingOpen, NothingToTake, NumberTooLarge, PdcpLength, PdcpOrder, RangeCount,
+    NothingOpen, NothingToTake, NumberTooLarge, Opposite, PdcpLength, PdcpOrder, RangeCount,
     RangesNotWaiting, RecordsFull, Repeated, ReservedType, RunsFull, Span,
 };
 
-/// The end, the call's word, and its refusals in document 01's order.
+/// The end, the call's word, and its refusals in their order.
 type Call = (&'static str, &'static str, &'static [Refusal]);
 
 const CALLS: [Call; 8] = [
@@ -21,6 +21,7 @@ const CALLS: [Call; 8] = [
         &[
             Closed,
             NumberTooLarge,
+            Opposite,
             Late,
             Repeated,
             Span,
@@ -72,13 +73,14 @@ fn words(refusal: Refusal) -> &'static str {
         PdcpLength => "L is not 12, 15 or 18",
         Closed => "this end is closed",
         NumberTooLarge => "number past its circle",
-        Late => "late: before base",
+        Late => "late: behind base",
         Repeated => "repeated: has a record",
         Span => "span over half the circle",
         RunsFull => "more than 256 runs",
         RecordsFull => "512 records held",
         NotConfirmable => "nothing to confirm by that number",
         NothingOpen => "no gap to give up",
+        Opposite => "opposite: half the circle from base",
         BufferShort => "buffer too short",
         FinalTooEarly => "Final with more than 162 runs",
         NotOurStatus => "not this bearer's status",

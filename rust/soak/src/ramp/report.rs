@@ -154,7 +154,11 @@ impl Report<'_> {
         line(out, "dropped on the road", figures.losses.dropped())?;
         line(out, "arrived after a later one", figures.overtaken)?;
         line(out, "further copies sent after them", figures.copies)?;
-        line(out, "arrivals refused as late or repeated", figures.strays)?;
+        line(
+            out,
+            "arrivals refused: late, opposite, repeated",
+            figures.strays,
+        )?;
         line(out, "declared lost", tally.lost)?;
         line(out, "reported lost", tally.reported)?;
         line(out, "confirmed by the handset", tally.confirmed)?;

@@ -1,6 +1,6 @@
 //! The packets that came in and were not yet reported as delivered.
 
-use crate::circle::Circle;
+use crate::circle::{Circle, Lies};
 use crate::frame::Range;
 use crate::ring::Ring;
 
@@ -21,7 +21,9 @@ pub struct Record {
 /// Base, and the records on both sides of it in sending order.
 ///
 /// All numbers between two neighbouring records past base are open, so the
-/// gaps are read off the records and stored nowhere.
+/// gaps are read off the records and stored nowhere. What is held lies within
+/// half a circle, so that of two records one is ahead; only base may come to
+/// lie opposite the oldest.
 #[derive(Clone, Debug)]
 pub(super) struct Intake {
     circle: Circle,
@@ -65,42 +67,31 @@ impl Intake {
         self.records.iter_from(0)
     }
 
-    /// Steps from base forward to `number`.
-    pub(super) const fn ahead(&self, number: u32) -> u32 {
-        self.circle.forward(self.base, number)
+    /// The number of the oldest record.
+    pub(super) fn oldest(&self) -> Option<u32> {
+        self.records.get(0).map(|record| record.number)
     }
 
-    /// Steps from `number` forward to base.
-    pub(super) const fn behind(&self, number: u32) -> u32 {
-        self.circle.forward(number, self.base)
-    }
-
-    /// How far ahead of base the highest accepted number is, if it is ahead.
-    pub(super) fn newest_ahead(&self) -> Option<u32> {
+    /// The highest accepted number, if it lies past base.
+    pub(super) fn newest_past_base(&self) -> Option<u32> {
         let newest = self.records.last()?;
-        (self.settled < self.records.len()).then(|| self.ahead(newest.number))
+        (self.settled < self.records.len()).then_some(newest.number)
     }
 
-    /// How far behind base the oldest record is; 0 if none is behind.
-    pub(super) fn oldest_behind(&self) -> u32 {
-        match self.records.get(0) {
-            Some(oldest) if self.settled > 0 => self.behind(oldest.number),
-            _ => 0,
-        }
-    }
-
-    /// Where a record `ahead` of base belongs, unless it is there already.
-    pub(super) fn place_for(&self, ahead: u32) -> Option<usize> {
+    /// Where a record of `number`, at or past base, belongs, unless it is there
+    /// already.
+    pub(super) fn place_for(&self, number: u32) -> Option<usize> {
+        let is_below = |held: u32| self.circle.compare(number, held) == Lies::Behind;
         // In-order packets belong at the end; only overtaken ones are sought.
-        if self.newest_ahead().is_none_or(|newest| newest < ahead) {
+        if self.newest_past_base().is_none_or(is_below) {
             return Some(self.records.len());
         }
         let past_base = self.settled..self.records.len();
         let place = self
             .records
-            .partition_point(past_base, |record| self.ahead(record.number) < ahead);
+            .partition_point(past_base, |record| is_below(record.number));
         let held = self.records.get(place)?;
-        (self.ahead(held.number) != ahead).then_some(place)
+        (held.number != number).then_some(place)
     }
 
     /// Adds a record at the place found for it. The caller has seen that there
@@ -116,27 +107,30 @@ impl Intake {
 
     /// The runs of open numbers less than `cut` ahead of base.
     pub(super) fn gaps(&self, cut: u32) -> impl Iterator<Item = Range> {
-        let mut from = 0;
+        let circle = self.circle;
+        let end = circle.step(self.base, cut);
+        let mut from = self.base;
         self.records
             .iter_from(self.settled)
-            .map(|record| self.ahead(record.number))
-            .take_while(move |&ahead| ahead < cut)
-            .chain(core::iter::once(cut))
-            .map(move |to| core::mem::replace(&mut from, to + 1)..to)
-            .filter(|gap| !gap.is_empty())
-            .map(|gap| Range {
-                start: self.circle.step(self.base, gap.start),
-                end: self.circle.step(self.base, gap.end - 1),
+            .map(|record| record.number)
+            .take_while(move |&number| circle.compare(end, number) == Lies::Behind)
+            .chain(core::iter::once(end))
+            .map(move |to| (core::mem::replace(&mut from, circle.step(to, 1)), to))
+            .filter(|(start, to)| start != to)
+            .map(move |(start, to)| Range {
+                start,
+                end: circle.before(to),
             })
     }
 
     /// Moves base `cut` ahead; everything it passes is received or lost.
     pub(super) fn pass(&mut self, cut: u32) {
+        let end = self.circle.step(self.base, cut);
         let past_base = self.settled..self.records.len();
-        self.settled = self
-            .records
-            .partition_point(past_base, |record| self.ahead(record.number) < cut);
-        self.base = self.circle.step(self.base, cut);
+        self.settled = self.records.partition_point(past_base, |record| {
+            self.circle.compare(end, record.number) == Lies::Behind
+        });
+        self.base = end;
     }
 
     /// Moves base over the records that begin there.
@@ -149,14 +143,14 @@ impl Intake {
         }
     }
 
-    /// Confirms the record of `number` before base. Answers whether there was
-    /// one to confirm.
+    /// Confirms the record of `number`, which lies before base. Answers whether
+    /// there was one to confirm.
     pub(super) fn confirm(&mut self, number: u32) -> bool {
         let place = self.settled_place(number);
         let Some(record) = self.records.get_mut(place) else {
             return false;
         };
-        if place >= self.settled || record.number != number || record.confirmed {
+        if record.number != number || record.confirmed {
             return false;
         }
         record.confirmed = true;
@@ -168,7 +162,7 @@ impl Intake {
         true
     }
 
-    /// The place of `number` among the settled records, if it has one there.
+    /// The place of `number`, before base, if it has a record.
     fn settled_place(&self, number: u32) -> usize {
         // Handsets mostly confirm in order: try the oldest unconfirmed first.
         match self.records.get(self.delivered) {
@@ -177,11 +171,12 @@ impl Intake {
         }
     }
 
-    /// How many of the `count` oldest records, all settled, lie before `number`.
+    /// How many of the `count` oldest records, all settled, lie before `number`,
+    /// which lies before base too.
     fn count_before(&self, number: u32, count: usize) -> usize {
-        let behind = self.behind(number);
-        self.records
-            .partition_point(0..count, |record| self.behind(record.number) > behind)
+        self.records.partition_point(0..count, |record| {
+            self.circle.compare(number, record.number) == Lies::Behind
+        })
     }
 
     /// How many of the oldest records a status may let go: those confirmed

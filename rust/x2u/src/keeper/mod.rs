@@ -9,6 +9,7 @@ mod runs;
 
 use crate::Answer;
 use crate::bearer::Bearer;
+use crate::circle::Lies;
 use crate::frame::{self, MOST_RANGES, Range, Report};
 use crate::refusal::{Refusal, refuse_if};
 pub use intake::{MOST_RECORDS, Record};
@@ -48,11 +49,14 @@ impl Keeper {
     pub fn arrive(&mut self, number: u32, pdcp: u32) -> Answer<u32> {
         refuse_if(self.closed, Refusal::Closed)?;
         self.bearer.judge(number, pdcp)?;
-        let half = self.bearer.numbers().half();
-        let ahead = self.intake.ahead(number);
-        refuse_if(ahead >= half, Refusal::Late)?;
-        let place = self.intake.place_for(ahead).ok_or(Refusal::Repeated)?;
-        refuse_if(self.floor_to_base() + ahead >= half, Refusal::Span)?;
+        let (circle, base) = (self.bearer.numbers(), self.base());
+        let lies = circle.compare(base, number);
+        refuse_if(lies == Lies::Opposite, Refusal::Opposite)?;
+        refuse_if(lies == Lies::Behind, Refusal::Late)?;
+        let place = self.intake.place_for(number).ok_or(Refusal::Repeated)?;
+        let ahead = circle.forward(base, number);
+        let span = circle.forward(self.floor(), base) + ahead;
+        refuse_if(span >= circle.half(), Refusal::Span)?;
         let cut = (ahead + 1).saturating_sub(WINDOW);
         self.judge_loss(cut)?;
         refuse_if(self.intake.is_full(), Refusal::RecordsFull)?;
@@ -65,7 +69,8 @@ impl Keeper {
     /// became lost.
     pub fn expire(&mut self) -> Answer<u32> {
         refuse_if(self.closed, Refusal::Closed)?;
-        let cut = self.intake.newest_ahead().ok_or(Refusal::NothingOpen)?;
+        let newest = self.intake.newest_past_base().ok_or(Refusal::NothingOpen)?;
+        let cut = self.bearer.numbers().forward(self.base(), newest);
         self.judge_loss(cut)?;
         Ok(self.lose(cut))
     }
@@ -73,9 +78,11 @@ impl Keeper {
     /// The packet of that number was delivered to the handset.
     pub fn confirm(&mut self, number: u32) -> Answer<()> {
         refuse_if(self.closed, Refusal::Closed)?;
-        let held = self.bearer.numbers().holds(number);
-        refuse_if(!held, Refusal::NumberTooLarge)?;
-        refuse_if(!self.intake.confirm(number), Refusal::NotConfirmable)
+        let circle = self.bearer.numbers();
+        refuse_if(!circle.holds(number), Refusal::NumberTooLarge)?;
+        let is_before_base = circle.compare(self.base(), number).is_before();
+        let confirmed = is_before_base && self.intake.confirm(number);
+        refuse_if(!confirmed, Refusal::NotConfirmable)
     }
 
     /// Writes the next status to the front of `buffer` and answers its length.
@@ -143,11 +150,15 @@ impl Keeper {
         self.intake.record_count()
     }
 
-    /// Steps from the earliest number still held forward to base.
-    fn floor_to_base(&self) -> u32 {
+    /// The earliest of base, the listed numbers and the numbers with records.
+    fn floor(&self) -> u32 {
+        // What is listed lies before base, and the first run before the others.
         let first_run = self.runs.list().first();
-        let first_lost = first_run.map_or(0, |run| self.intake.behind(run.start));
-        first_lost.max(self.intake.oldest_behind())
+        let listed = first_run.map_or(self.base(), |run| run.start);
+        match self.intake.oldest() {
+            Some(oldest) if self.bearer.numbers().compare(listed, oldest).is_before() => oldest,
+            _ => listed,
+        }
     }
 
     /// Refuses a loss of all open numbers below `cut` that the list can't take.
