@@ -1,4 +1,4 @@
-// Document 01's refusals: a name for each number of its table, in its order. An answer that refuses bears
+// Document 01's refusals, and those of document 02's requests: a name for each number, in order. An answer that refuses bears
 // one of these numbers, so no other place of the code says a number.
 
 // Reading and writing frames.
