@@ -5,7 +5,7 @@ ghost use Prim.Native.Nat.{_+_, _*_, _/_, _%_, _^_, _≤_, _<_};
 ghost use lib.ListN.{length, replicate};
 ghost use Rattle.basics.specs.Basics.{all};
 ghost use Rattle.frame_layout.specs.Octets.{octets};
-ghost use Rattle.frame_layout.specs.Frames.{rangesOf, rangeOctets, listOctets, firstOctet, inForm, mostRanges, mostOctets, width, statusType, padding as «paddingOf», statusFields, writeData, writeStatus};
+ghost use Rattle.frame_layout.specs.Frames.{rangesOf, rangeOctets, listOctets, firstOctet, inForm, mostRanges, mostOctets, width, statusType, statusFields, writeData, writeStatus};
 ghost use Rattle.basics.specs.Laid.{Room, Laid};
 ghost use Rattle.frame_writer.specs.Answers.{left, statusOf};
 ghost use Rattle.frame_writer.specs.Lengths.{statusLength};
@@ -43,7 +43,7 @@ fn write_data_in(long: bool, number: u32, dst: &mut [u8]) -> Wrote
         return Wrote::Refused(refusal::NUMBER);
     }
     let length = 1 + frame_layout::width(long);
-    let zeros = padding(length);
+    let zeros = frame_layout::padding(length);
     if dst.len() < length + zeros {
         return Wrote::Refused(refusal::ROOM);
     }
@@ -68,7 +68,7 @@ pub fn write_status(head: Head, starts: &[u32], ends: &[u32], dst: &mut [u8]) ->
         return Wrote::Refused(refusal::NUMBER);
     }
     let length = status_length(long, count);
-    let zeros = padding(length);
+    let zeros = frame_layout::padding(length);
     if dst.len() < length + zeros {
         return Wrote::Refused(refusal::ROOM);
     }
@@ -88,13 +88,6 @@ fn status_length(long: bool, count: usize) -> usize
         return frame_layout::count_at(long);
     }
     frame_layout::list_at(long) + count * (2 * frame_layout::width(long))
-}
-
-// The fewest zero octets that make a length 4k - 2: the remainder of (2 - length) modulo 4, with 4 more so as not to go below zero.
-fn padding(length: usize) -> usize
-    ensures { λ r. ⌜ r ≡ «paddingOf» length ⌝ }
-{
-    (4 + 2 - length % 4) % 4
 }
 
 // ---- the ranges

@@ -1,8 +1,8 @@
 -- The padding is the layout's remainder, of any length.
 -- Assumes nothing.
 use native.Mathlib.Omega.{arith}
-use Rattle.frame_writer.proofs.padding.Statement.{statement}
-use Rattle.frame_writer.proofs.padding.Tie as tie
+use Rattle.frame_layout.proofs.padding.Statement.{statement}
+use Rattle.frame_layout.proofs.padding.Tie as tie
 
 add-result : tie.Need-add-result
 add-result c = omega arith
