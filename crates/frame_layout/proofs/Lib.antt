@@ -1,7 +1,7 @@
 pub mod Forms
 pub mod Octets
 pub mod Ranges
-pub mod Padding
+pub mod Padded
 pub mod First
 pub mod Refusals
 pub mod Read

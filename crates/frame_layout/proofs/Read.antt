@@ -18,7 +18,7 @@ use Rattle.basics.proofs.Choices.{or-false, by-choice}
 use Rattle.basics.proofs.Refusals.{says-fails, given-none}
 use Rattle.frame_layout.proofs.Forms.{modulus-is}
 use Rattle.frame_layout.proofs.Octets.{field-below, rangesAt-inForm, length-rangesAt}
-use Rattle.frame_layout.proofs.Padding.{not-bad-good}
+use Rattle.frame_layout.proofs.Padded.{not-bad-good}
 use Rattle.frame_layout.proofs.Refusals.{from2, early-says, highest-says, count-says, list-says, status-read-given}
 
 -- octets of a status which 3, 4, 5 and 6 don't refuse

@@ -17,7 +17,7 @@ use Rattle.frame_layout.specs.Frames.{width, mostHighest, dataType, stat
 use Rattle.frame_layout.specs.Refusals.{typeOf, Listed, Layout, layoutOf, OfStatus, BadLength, Reserved, EndsEarly, HighestAbove, BadCount, EndsInList, answered, ReadsGiven, PastForm, DataGiven, StatusesGiven}
 use Rattle.basics.proofs.Choices.{contrary, of-choice}
 use Rattle.basics.proofs.Refusals.{Says, says-below, says-same, says-or, says-and, says-not, says-as, says-past, says-not-both, says-some, given-of, given-unless}
-use Rattle.frame_layout.proofs.Padding.{not-bad-good}
+use Rattle.frame_layout.proofs.Padded.{not-bad-good}
 use Rattle.frame_layout.proofs.Forms.{types-below, types-apart}
 
 -- ---- reading: 1

@@ -18,7 +18,7 @@ use Rattle.frame_layout.specs.Trips.{AreOctets, Frame, data-frame, statu
 use Rattle.basics.proofs.Choices.{or-false}
 use Rattle.frame_layout.proofs.Forms.{width-within, fixed-end, before-data, before-status}
 use Rattle.frame_layout.proofs.Octets.{octets-field, length-rangesAt, rangeOctets-rangesAt, parts-join}
-use Rattle.frame_layout.proofs.Padding.{padded-front}
+use Rattle.frame_layout.proofs.Padded.{padded-front}
 use Rattle.frame_layout.proofs.First.{first-again}
 use Rattle.frame_layout.proofs.Read.{Fits, Read, as-data, as-status}
 

@@ -16,7 +16,7 @@ use Rattle.frame_layout.specs.Trips.{AreOctets, GoodLength, data-frame, 
 use Rattle.circle.specs.Lengths.{modulus}
 use Rattle.frame_layout.proofs.Forms.{width-within, modulus-is, highest-held, types-below, before-data, before-status, fixed-end, ranges-most}
 use Rattle.frame_layout.proofs.Octets.{none-are, cons-are, append-are, octets-are, length-octets, field-of, length-rangeOctets, rangeOctets-are, ranges-of}
-use Rattle.frame_layout.proofs.Padding.{good-not-bad, length-padded, padded-good, padded-fewest, padded-rest, padded-are}
+use Rattle.frame_layout.proofs.Padded.{good-not-bad, length-padded, padded-good, padded-fewest, padded-rest, padded-are}
 use Rattle.frame_layout.proofs.First.{bit-below, first-type, first-final, first-listed, first-spare, first-below}
 use Rattle.frame_layout.proofs.Read.{Fits, fits-read}
 

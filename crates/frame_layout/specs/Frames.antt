@@ -68,9 +68,9 @@ pub record Status : Type 0 where
 abbrev pub firstOctet : ℕ → Bool → Bool → ℕ
 firstOctet t final listed = t * 16 + bit final * 2 + bit listed
 
--- how many zero octets take a length to the next 4k - 2
+-- the fewest zero octets that make a length n 4k - 2: the remainder of (2 - n) modulo 4, with 4 more so as not to go below zero
 abbrev pub padding : ℕ → ℕ
-padding n = (4 - (n + 2) % 4) % 4
+padding n = (4 + 2 - n % 4) % 4
 
 -- fields, and the fewest zero octets that make the length 4k - 2
 abbrev pub padded : List ℕ → List ℕ

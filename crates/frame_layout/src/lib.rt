@@ -2,7 +2,7 @@
 // layout itself stands in specs/Frames.antt, on lists of octets.
 ghost use mathlib.Core.Path.{_≡_};
 ghost use Prim.Native.Nat.{_≤_, _<_};
-ghost use Rattle.frame_layout.specs.Frames.{width as «widthOf», mostHighest, dataType, statusType, countAt, listAt};
+ghost use Rattle.frame_layout.specs.Frames.{width as «widthOf», mostHighest, dataType, statusType, countAt, listAt, padding as «paddingOf»};
 
 // The least length of a frame.
 pub const LEAST_OCTETS: usize = 6;
@@ -38,6 +38,13 @@ pub fn list_at(long: bool) -> usize
     ensures { λ r. ⌜ (r ≡ listAt («widthOf» long)) × (r ≤ 13) ⌝ }
 {
     10 + width(long)
+}
+
+// The fewest zero octets that make a length 4k - 2: the remainder of (2 - length) modulo 4, with 4 more so as not to go below zero.
+pub fn padding(length: usize) -> usize
+    ensures { λ r. ⌜ r ≡ «paddingOf» length ⌝ }
+{
+    (4 + 2 - length % 4) % 4
 }
 
 // The greatest highest PDCP number that a status may bear.

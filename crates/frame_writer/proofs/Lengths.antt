@@ -1,13 +1,12 @@
--- How long frames are before their padding.
+-- How long a status is before its padding.
 -- Assumes nothing.
 use mathlib.Core.Path.{_≡_, refl, _∙_}
-use mathlib.Core.Bool.{Bool, true, false}
+use mathlib.Core.Bool.{Bool}
 use mathlib.Core.List.{List, [], _∷_}
 use Prim.Native.Nat.{ℕ, zero, suc, _+_, _*_}
 use native.Mathlib.Omega.{arith}
 use lib.ListN.{length, length-append}
-use Rattle.frame_layout.specs.Octets.{octets}
-use Rattle.frame_layout.specs.Frames.{Range, Status, width, listAt, listOctets, statusFields, padding}
+use Rattle.frame_layout.specs.Frames.{Range, Status, width, listAt, listOctets, statusFields}
 use Rattle.frame_layout.proofs.Octets.{length-octets, length-rangeOctets}
 use Rattle.frame_writer.specs.Lengths.{statusLength}
 
@@ -27,8 +26,3 @@ with-list long (r ∷ rs) = omega (arith, length-rangeOctets (width long) (r ∷
 -- they are as long as said
 pub length-status : (s : Status) → length (statusFields s) ≡ statusLength (s .long) (length (s .ranges))
 length-status s = length-fields s ∙ with-list (s .long) (s .ranges)
-
--- a data frame is 8 octets shorter than a status without a list, so its padding is the same
-pub data-padding : (long : Bool) (n : ℕ) → padding (statusLength long 0) ≡ padding (suc (length (octets (width long) n)))
-data-padding true n = refl
-data-padding false n = refl

@@ -8,7 +8,7 @@ use borrow.Author.Tests.{lt-ltb, le-ltb}
 use lib.ListN.{length, replicate}
 use lib.Seq.{sets-eq}
 use Rattle.frame_layout.specs.Frames.{padding, padded, place}
-use Rattle.frame_layout.proofs.Padding.{length-padded}
+use Rattle.frame_layout.proofs.Padded.{length-padded}
 use Rattle.frame_writer.specs.declared.Wrote.the-variants.{Octets, Refused}
 use Rattle.frame_writer.specs.Answers.{left}
 use Rattle.basics.specs.Laid.{Laid}

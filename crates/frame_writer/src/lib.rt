@@ -5,7 +5,7 @@ ghost use Prim.Native.Nat.{_+_, _*_, _/_, _%_, _^_, _≤_, _<_};
 ghost use lib.ListN.{length, replicate};
 ghost use Rattle.basics.specs.Basics.{all};
 ghost use Rattle.frame_layout.specs.Octets.{octets};
-ghost use Rattle.frame_layout.specs.Frames.{rangesOf, rangeOctets, listOctets, firstOctet, inForm, mostRanges, mostOctets, width, statusType, padding as «paddingOf», statusFields, writeData, writeStatus};
+ghost use Rattle.frame_layout.specs.Frames.{rangesOf, rangeOctets, listOctets, firstOctet, inForm, mostRanges, mostOctets, width, statusType, statusFields, writeData, writeStatus};
 ghost use Rattle.basics.specs.Laid.{Room, Laid};
 ghost use Rattle.frame_writer.specs.Answers.{left, statusOf};
 ghost use Rattle.frame_writer.specs.Lengths.{statusLength};
@@ -25,16 +25,25 @@ pub enum Wrote {
     Refused(u32),
 }
 
-// A data frame: type 0, or 3 in the long form.
+// A data frame: type 0, or 3 in the long form. Each form has its own call, so that its lengths are constants to the compiler.
 pub fn write_data(long: bool, number: u32, dst: &mut [u8]) -> Wrote
+    ensures { λ r. ⌜ left r (now (dst .exit)) ≡ writeData long number (now (dst .entry)) ⌝ }
+{
+    if long {
+        return write_data_in(true, number, dst);
+    }
+    write_data_in(false, number, dst)
+}
+
+// A data frame of either form, called with the form as a constant.
+fn write_data_in(long: bool, number: u32, dst: &mut [u8]) -> Wrote
     ensures { λ r. ⌜ left r (now (dst .exit)) ≡ writeData long number (now (dst .entry)) ⌝ }
 {
     if circle::modulus(long) <= number {
         return Wrote::Refused(refusal::NUMBER);
     }
     let length = 1 + frame_layout::width(long);
-    // Its padding is that of a status without a list, which is 8 octets longer.
-    let zeros = padding(long, 0);
+    let zeros = frame_layout::padding(length);
     if dst.len() < length + zeros {
         return Wrote::Refused(refusal::ROOM);
     }
@@ -58,8 +67,9 @@ pub fn write_status(head: Head, starts: &[u32], ends: &[u32], dst: &mut [u8]) ->
     if !all_in_form(long, starts, ends, count) {
         return Wrote::Refused(refusal::NUMBER);
     }
-    let zeros = padding(long, count);
-    if dst.len() < status_length(long, count) + zeros {
+    let length = status_length(long, count);
+    let zeros = frame_layout::padding(length);
+    if dst.len() < length + zeros {
         return Wrote::Refused(refusal::ROOM);
     }
     let at = put_status(head, starts, ends, count, dst);
@@ -78,19 +88,6 @@ fn status_length(long: bool, count: usize) -> usize
         return frame_layout::count_at(long);
     }
     frame_layout::list_at(long) + count * (2 * frame_layout::width(long))
-}
-
-// How many zero octets take a status to the next length 4k - 2: by form, list flag and parity of the count.
-fn padding(long: bool, count: usize) -> usize
-    ensures { λ r. ⌜ r ≡ «paddingOf» (statusLength long count) ⌝ }
-{
-    if count == 0 {
-        return if long { 2 } else { 3 };
-    }
-    if long {
-        return if count % 2 == 0 { 1 } else { 3 };
-    }
-    2
 }
 
 // ---- the ranges

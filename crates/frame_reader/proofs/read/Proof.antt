@@ -3,7 +3,7 @@ use Prim.Native.Nat.{_≤_}
 use native.Mathlib.Omega.{arith}
 use mathlib.Core.Path.{sym, _∙_}
 use lib.ListN.{length}
-use Rattle.frame_layout.proofs.Padding.{not-bad-good}
+use Rattle.frame_layout.proofs.Padded.{not-bad-good}
 use borrow.Author.Needs.{needs}
 use Rattle.frame_reader.proofs.read.Statement.{statement}
 use Rattle.frame_reader.proofs.read.Tie as tie

@@ -30,10 +30,10 @@ padding-laid c = c .before .before
 abbrev status-laid : tie.After-put-zeros-arg → tie.After-put-status
 status-laid c = c .before .before .before
 
-abbrev sized : tie.After-put-status → tie.After-status-length
+abbrev sized : tie.After-put-status → tie.After-padding
 sized c = c .before .before .before
 
-abbrev judging : tie.After-status-length → tie.After-all-in-form
+abbrev judging : tie.After-padding → tie.After-all-in-form
 judging c = c .before .before .before
 
 abbrev counted : tie.After-all-in-form → tie.After-least
@@ -46,7 +46,7 @@ abbrev entry : tie.After-struct-known → tie.Start
 entry c = c .before .before .before .before .before
 
 -- the call, once the lengths are worked out
-abbrev start : tie.After-status-length → tie.Start
+abbrev start : tie.After-padding → tie.Start
 start c = entry (told (counted (judging c)))
 
 most-highest-requires : tie.Need-most-highest-requires
@@ -83,24 +83,24 @@ returns-3 c =
     let out : all (inForm (s .long)) (s .ranges) ≡ false = sym (c .before .all-in-form .ensures) ∙ not-true _ (c .if3 .taken) in
     rw (le-ltb (mostHighest (s .long)) (s .highest) within, le-ltb mostRanges (length (s .ranges)) few, out)
 
-padding-requires : tie.Need-padding-requires
-padding-requires c κs = search needs
-
 status-length-requires : tie.Need-status-length-requires
 status-length-requires c κs = search needs
 
+padding-requires : tie.Need-padding-requires
+padding-requires c κs = search needs
+
 -- the length that the code works out is that of the fields
-fields-length : (c : tie.After-status-length) → length (statusFields (asked (start c))) ≡ c .status-length .result
+fields-length : (c : tie.After-padding) → length (statusFields (asked (start c))) ≡ c .before .status-length .result
 fields-length c =
     let s = asked (start c) in
-    length-status s ∙ sym (c .status-length .ensures .0 ∙ ap (statusLength (s .long)) (count-said (counted (judging c))))
+    length-status s ∙ sym (c .before .status-length .ensures .0 ∙ ap (statusLength (s .long)) (count-said (counted (judging c))))
 
 -- and so is the padding
-zeros-said : (c : tie.After-status-length) → c .before .padding .result ≡ padding (length (statusFields (asked (start c))))
-zeros-said c = c .before .padding .ensures ∙ ap padding (sym (c .status-length .ensures .0) ∙ sym (fields-length c))
+zeros-said : (c : tie.After-padding) → c .padding .result ≡ padding (length (statusFields (asked (start c))))
+zeros-said c = c .padding .ensures ∙ ap padding (sym (fields-length c))
 
 -- only room can be missing
-judged : (c : tie.After-status-length) → place (padded (statusFields (asked (start c)))) (start c .args .dst .now) ≡ writeStatus (asked (start c)) (start c .args .dst .now)
+judged : (c : tie.After-padding) → place (padded (statusFields (asked (start c)))) (start c .args .dst .now) ≡ writeStatus (asked (start c)) (start c .args .dst .now)
 judged c =
     let s = asked (start c) in
     let within : s .highest ≤ mostHighest (s .long) = omega arith in
@@ -149,8 +149,8 @@ write-status-spec =
     returns-2
     all-in-form-requires
     returns-3
-    padding-requires
     status-length-requires
+    padding-requires
     add-if4
     returns-4
     put-status-requires
