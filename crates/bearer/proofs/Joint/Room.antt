@@ -18,7 +18,7 @@ use Rattle.bearer.specs.Packets.{In, Each}
 use Rattle.bearer.specs.World.{World}
 use Rattle.bearer.specs.Account.{Held, indexes, Maximal}
 use Rattle.bearer.proofs.Lists.Mapped.{each-so}
-use Rattle.bearer.proofs.Lists.Elements.{in-none, in-head, in-drop, in-each, each-in, rising-first, in-inserted, rising-inserted}
+use Rattle.bearer.proofs.Lists.Elements.{in-head, in-drop, in-each, each-in, rising-first, in-inserted, rising-inserted}
 use Rattle.bearer.proofs.Secondary.Index.{Indexed, froms, firstBack, floorI, placeI, runsAfterI}
 use Rattle.bearer.proofs.Secondary.Open.{open-is}
 use Rattle.bearer.proofs.Secondary.Runs.{starts-in, maximal-rising, each-with-runs, maximal-with-runs}
@@ -91,13 +91,14 @@ module _ {L first : ℕ} (ok : isLength L ≡ true) {w : World} (j : Joint L fir
       lost-sent : (x : ℕ) → In x (drop (j .second .told) (w .fates .lost)) → x < length (w .sent)
       lost-sent x p = j .second .were-sent .lost x (in-drop x (j .second .told) (w .fates .lost) p)
 
+      -- base waits
+      near : d < half L
+      near = let n = sent-near ok j o (j .second .a .base) (from-base ok j o (j .second .a .base) (omega arith) (omega arith)) in omega arith
+
       -- the first of packets that wait lies less than half the numbers behind the packet
       back : (xs : List ℕ) → ((x : ℕ) → In x xs → In x (waitingOf (w .ledger .entries))) → firstBack (j .second .a .base) xs + d < half L
-      back [] f = let n = sent-near ok j o (j .second .a .base) (from-base ok j o (j .second .a .base) (omega arith) (omega arith)) in omega arith
-      back (x ∷ xs) f =
-          let n = sent-near ok j o x (f x (in-head x xs)) in
-          let b = back [] (λ y p. absurd (in-none p)) in
-          omega arith
+      back [] f = omega (arith, near)
+      back (x ∷ xs) f = let n = sent-near ok j o x (f x (in-head x xs)) in omega (arith, near)
 
   -- 14
   pub runs-near : length (runsAfterI (j .second .a) (limitOf d)) ≤ mostRuns

@@ -130,7 +130,7 @@ module _ {L first cut : ℕ} {sent : List ℕ} {l : Ledger ℕ} (m : Master L fi
     cut-sent = m .cut-sent;
     oldest-is = oldest-after ds (omega arith);
     entries-are = entries-turned t (m .entries-are);
-    ordered = rw (← e) at (fewer (m .ordered) (waited t));
+    ordered = rw e (fewer (m .ordered) {ws′ = waitingOf ds} (waited t));
   }
 
   -- the highest moves to packet g: what waits through g is freed

@@ -8,7 +8,7 @@ use mathlib.Core.Logic.{inl, inr}
 use Prim.Native.Nat.{ℕ, suc, _+_, _^_, _≤_, _<_}
 use native.Mathlib.Omega.{arith}
 use borrow.Author.Tests.{ltb-true, not-false}
-use lib.Dec.{ltb, leb}
+use lib.Dec.{ltb, leb, eqb}
 use lib.ListN.{length, take, drop, length-map}
 use Rattle.basics.specs.Basics.{if_then_else_, _or_, alike, refused, isDone}
 use Rattle.basics.specs.Refusals.{Refusal, _when_, Given}
@@ -62,7 +62,8 @@ module _ {L first f : ℕ} {l : Ledger ℕ} {b : Books} (x : LedgerReached L fir
   order-says : (p : ℕ) → Says (not (inOrder l p)) (OutOfOrder L f b (waitingOf (l .entries)) p)
   order-says p =
       let s = sound x in
-      says-not (says-and (rw (s .figures .highest-is) (says-not (says-same p (b .highest)))) (from-oldest (drop (l .oldest) (l .entries)) (waitingOf (l .entries)) (the-oldest (s .master))))
+      let differs : Says (not (eqb p (l .highest))) (p ≡ b .highest → ⊥) = rw (s .figures .highest-is) (says-not (says-same p (b .highest))) in
+      says-not (says-and differs (from-oldest (drop (l .oldest) (l .entries)) (waitingOf (l .entries)) (the-oldest (s .master))))
     where
       -- with entries waiting the test is that of the oldest; with none it is none
       from-oldest : (ds : List (Entry ℕ)) (ws : List ℕ) → Oldest (b .sent) ds ws → Says (follows l p ds) (FollowsOldest L f b ws p)

@@ -7,11 +7,11 @@ use mathlib.Core.List.{List, [], _∷_, _++_}
 use mathlib.Core.Logic.{_⊎_, inl, inr, ⊎-elim}
 use Prim.Native.Nat.{ℕ, zero, suc, _+_, _-_, _≤_, _<_}
 use native.Mathlib.Omega.{arith}
-use borrow.Author.Tests.{ltb-true, ltb-false}
+use borrow.Author.Tests.{lt-ltb, le-ltb}
 use lib.Dec.{ltb, leb}
 use lib.ListN.{length, drop}
 use Rattle.basics.specs.Basics.{if_then_else_, _and_}
-use Rattle.basics.proofs.Choices.{tested, contrary}
+use Rattle.basics.proofs.Choices.{tested, order}
 use Rattle.bearer.specs.Ledger.{Entry, waits, waitingAt, placeWithout}
 use Rattle.bearer.specs.LedgerMeaning.{waitingIn, inFront, TurnedLost, turned-end, turns, as-it-was}
 use Rattle.bearer.proofs.Master.Frees.{goes, leftOver}
@@ -30,11 +30,12 @@ behind-lost (e ∷ es) = go (waits e) (behind-lost es)
 -- from there on stand the waiting entries, the oldest first
 pub oldest-there : (es : List (Entry ℕ)) → waitingIn (drop (waitingAt es) es) ≡ waitingIn es
 oldest-there [] = refl
-oldest-there (e ∷ es) = go (tested (waits e)) (oldest-there es)
+oldest-there (e ∷ es) = go (waits e) refl (oldest-there es)
   where
-    go : (waits e ≡ true) ⊎ (waits e ≡ false) → waitingIn (drop (waitingAt es) es) ≡ waitingIn es → waitingIn (drop (waitingAt (e ∷ es)) (e ∷ es)) ≡ waitingIn (e ∷ es)
-    go (inl w) r = rw w
-    go (inr w) r = rw w r
+    go : (b : Bool) → waits e ≡ b → waitingIn (drop (waitingAt es) es) ≡ waitingIn es
+        → waitingIn (drop (if b then 0 else suc (waitingAt es)) (e ∷ es)) ≡ (if b then e ∷ waitingIn es else waitingIn es)
+    go true w r = rw w
+    go false w r = r
 
 -- what stands there waits
 pub waits-there : (es : List (Entry ℕ)) (e : Entry ℕ) (rest : List (Entry ℕ)) → drop (waitingAt es) es ≡ e ∷ rest → waits e ≡ true
@@ -49,7 +50,7 @@ waits-there (x ∷ es) e rest q = go (tested (waits x)) (waits-there es e rest)
 
 -- looked for from a place that it isn't in front of, it is found
 pub found-from : (n : ℕ) (es : List (Entry ℕ)) → n ≤ waitingAt es → n + waitingAt (drop n es) ≡ waitingAt es
-found-from zero es h = refl
+found-from zero es h = omega arith
 found-from (suc n) [] h = absurd (omega arith)
 found-from (suc n) (e ∷ es) h = go (waits e) h (found-from n es)
   where
@@ -88,12 +89,18 @@ oldest-without [] e back = go (waits e)
   where
     go : (b : Bool) → placeWithout 0 (if b then 0 else suc (waitingAt back)) ≤ waitingAt back
     go true = omega arith
-    go false = omega arith
-oldest-without (x ∷ front) e back = go (waits x) (tested (ltb (length front) (waitingAt (front ++ (e ∷ back))))) (oldest-without front e back)
+    go false = rw (lt-ltb 0 (suc (waitingAt back)) (omega arith)) (omega arith)
+oldest-without (x ∷ front) e back = go (waits x) (order (length front) n) (oldest-without front e back)
   where
-    go : (b : Bool) → (ltb (length front) (waitingAt (front ++ (e ∷ back))) ≡ true) ⊎ (ltb (length front) (waitingAt (front ++ (e ∷ back))) ≡ false)
-        → placeWithout (length front) (waitingAt (front ++ (e ∷ back))) ≤ waitingAt (front ++ back)
-        → placeWithout (suc (length front)) (if b then 0 else suc (waitingAt (front ++ (e ∷ back)))) ≤ (if b then 0 else suc (waitingAt (front ++ back)))
-    go true t r = omega arith
-    go false (inl t) r = rw t (let s : waitingAt (front ++ (e ∷ back)) - 1 ≤ waitingAt (front ++ back) = rw t at r in omega arith)
-    go false (inr t) r = rw t (let s : waitingAt (front ++ (e ∷ back)) ≤ waitingAt (front ++ back) = rw t at r in omega arith)
+    -- where it stands behind the first, and where without the entry
+    n : ℕ
+    n = waitingAt (front ++ (e ∷ back))
+
+    m : ℕ
+    m = waitingAt (front ++ back)
+
+    go : (b : Bool) → (length front < n) ⊎ (n ≤ length front) → placeWithout (length front) n ≤ m
+        → placeWithout (suc (length front)) (if b then 0 else suc n) ≤ (if b then 0 else suc m)
+    go true t r = rw (le-ltb (suc (length front)) 0 (omega arith)) (omega arith)
+    go false (inl t) r = rw (lt-ltb (suc (length front)) (suc n) (omega arith)) (let s : n - 1 ≤ m = rw (lt-ltb (length front) n t) at r in omega arith)
+    go false (inr t) r = rw (le-ltb (suc (length front)) (suc n) (omega arith)) (let s : n ≤ m = rw (le-ltb (length front) n t) at r in omega arith)

@@ -80,8 +80,8 @@ module _ {P H last : ℕ} {ws sent : List ℕ} (o : Ordered P H last ws sent) wh
 
   -- the highest moves to a packet that waited, and only some of those sent behind it wait on
   pub moves : {ws′ : List ℕ} (g : ℕ) → In g ws → ((x : ℕ) → In x ws′ → In x ws × (g < x) × (x < length sent)) → Ordered P (pdcpOf sent g) last ws′ sent
-  moves g w f =
-      let left = fewer (λ x v. f x v .0) in
+  moves {ws′} g w f =
+      let left : Ordered P H last ws′ sent = fewer (λ x v. f x v .0) in
       record {
         below = o .below;
         up = left .up;

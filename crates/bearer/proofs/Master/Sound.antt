@@ -5,7 +5,7 @@ use mathlib.Core.Path.{_≡_, refl, sym, _∙_, ap}
 use mathlib.Core.Bool.{Bool, true, false, not}
 use mathlib.Core.List.{List, [], _∷_, _++_, map-append}
 use mathlib.Core.Logic.{_⊎_, inl, inr, ⊎-elim}
-use Prim.Native.Nat.{ℕ, suc, _+_, _%_, _≤_, _<_}
+use Prim.Native.Nat.{ℕ, suc, _+_, _/_, _%_, _≤_, _<_}
 use native.Mathlib.Omega.{arith}
 use native.Mathlib.Nat.{mod-add-mod}
 use borrow.Author.Tests.{ltb-true, leb-true, leb-false, eq-eqb}
@@ -16,7 +16,7 @@ use Rattle.basics.specs.Basics.{if_then_else_, isDone}
 use Rattle.basics.proofs.Choices.{tested, contrary, and-true}
 use Rattle.circle.specs.Lengths.{isLength, modulusOf, pdcps}
 use Rattle.bearer.specs.Bearer.{mostEntries}
-use Rattle.bearer.specs.Ledger.{Entry, Ledger, newEntry, waits, waitingAt, pastLast, withinHalf, follows, inOrder, send, sentState}
+use Rattle.bearer.specs.Ledger.{Entry, Ledger, newEntry, waits, waitingAt, pdcpsTo, pastLast, withinHalf, follows, inOrder, send, sentState}
 use Rattle.bearer.specs.Packets.{numberOf, packets, Rising, In, Each}
 use Rattle.bearer.specs.LedgerMeaning.{waitingIn}
 use Rattle.bearer.proofs.Lists.Mapped.{each-so, each-append, each-drop}
@@ -108,9 +108,13 @@ pub data Oldest (sent : List ℕ) : List (Entry ℕ) → List ℕ → Type 0 whe
 pub the-oldest : {L first cut : ℕ} {sent : List ℕ} {l : Ledger ℕ} → Master L first cut sent l → Oldest sent (drop (l .oldest) (l .entries)) (waitingOf (l .entries))
 the-oldest {sent = sent} {l} m =
     rw (m .oldest-is, ← oldest-there (l .entries))
-    (go (drop (waitingAt (l .entries)) (l .entries)) (waits-there (l .entries)) (each-so _ (λ e k. k .pdcp-is) (each-drop _ (waitingAt (l .entries)) (l .entries) (m .entries-are .sent-as))))
+    (go (drop (waitingAt (l .entries)) (l .entries)) (waits-there (l .entries)) (each-drop PdcpIs (waitingAt (l .entries)) (l .entries) (each-so (l .entries) (λ e k. k .pdcp-is) (m .entries-are .sent-as))))
   where
-    go : (ds : List (Entry ℕ)) → ((e : Entry ℕ) (rest : List (Entry ℕ)) → ds ≡ e ∷ rest → waits e ≡ true) → Each (λ (e : Entry ℕ). e .pdcp ≡ pdcpOf sent (e .label)) ds → Oldest sent ds (waitingOf ds)
+    -- an entry's PDCP number is its packet's
+    PdcpIs : Entry ℕ → Type 0
+    PdcpIs e = e .pdcp ≡ pdcpOf sent (e .label)
+
+    go : (ds : List (Entry ℕ)) → ((e : Entry ℕ) (rest : List (Entry ℕ)) → ds ≡ e ∷ rest → waits e ≡ true) → Each PdcpIs ds → Oldest sent ds (waitingOf ds)
     go [] w a = none-waits
     go (e ∷ ds) w a = rw (w e ds refl) (oldest-waits e ds (waitingOf ds) (a .0))
 
@@ -148,13 +152,13 @@ send-cases L p a l e = go (tested (l .closed)) (tested (ltb p (pdcps (l .bits)))
         ⊎ ((isDone (send l p a .answer) ≡ true) × (send l p a .state ≡ sentState l p a) × Sends L l p)
     go (inl c) t u s = inl (rw c, rw c)
     go (inr c) (inr t) u s = inl (rw (c, t), rw (c, t))
-    go (inr c) (inl t) (inr u) s = inl (rw (c, t, u), rw (c, t, u))
-    go (inr c) (inl t) (inl u) (inl s) = inl (rw (c, t, u, s), rw (c, t, u, s))
+    go (inr c) (inl t) (inr u) s = inl (rw (u, c, t), rw (u, c, t))
+    go (inr c) (inl t) (inl u) (inl s) = inl (rw (u, c, t, s), rw (u, c, t, s))
     go (inr c) (inl t) (inl u) (inr s) =
         let o = and-true (not (eqb p (l .highest))) (follows l p (drop (l .oldest) (l .entries))) u in
         inr (
-          rw (c, t, u, s),
-          rw (c, t, u, s),
+          rw (u, c, t, s),
+          rw (u, c, t, s),
           record {
             open-end = c;
             fits = rw e at (ltb-true p (pdcps (l .bits)) t);
@@ -173,7 +177,9 @@ follows-all {L} {first} {cut} {sent} {l} {p} ok m s x h = go (drop (l .oldest) (
     go ds ws none-waits q t = absurd (in-none (rw q at h))
     go ds ws (oldest-waits e es is pdcp-is) q t =
         let b = and-true (pastLast l (e .pdcp) p) (withinHalf l (e .pdcp) p) t in
-        let seen : Follows (pdcps L) (l .sent) sent p (e .label) = rw (m .bits-are, pdcp-is) at (ltb-true _ _ (b .0), ltb-true _ _ (b .1)) in
+        let past : pdcpsTo l (e .pdcp) (l .sent) < pdcpsTo l (e .pdcp) p = ltb-true _ _ (b .0) in
+        let within : pdcpsTo l (e .pdcp) p < pdcps (l .bits) / 2 = ltb-true _ _ (b .1) in
+        let seen : Follows (pdcps L) (l .sent) sent p (e .label) = rw (← m .bits-are, ← pdcp-is) (past, within) in
         let rises = rw q at (waiting-rising (l .entries) (m .entries-are .rising)) in
         follows-each (m .ordered) (roomy L ok .some-pdcps) p (e .label) x (s .fits) (rw q (in-head (e .label) is)) (rising-first (e .label) is rises x (rw q at h))
         (waiting-sent x (l .entries) (m .entries-are) h .1) seen

@@ -80,7 +80,7 @@ master-left {l = l} m s =
       cut-sent = m .cut-sent;
       oldest-is = found-from _ (s .front ++ s .back) place;
       entries-are = entries-without (s .front) (s .gone) (s .back) (rw (s .were) at (m .entries-are));
-      ordered = fewer (m .ordered) (λ x p. rw (s .were) (waited-without (s .front) (s .gone) (s .back) x p));
+      ordered = fewer (m .ordered) {ws′ = waitingOf (s .front ++ s .back)} (λ x p. rw (s .were) (waited-without (s .front) (s .gone) (s .back) x p));
     })
 
 -- while the end is open, who waits still waits
