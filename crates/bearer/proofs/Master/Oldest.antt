@@ -1,20 +1,19 @@
 -- Where the oldest waiting entry stands, and that the ledger goes on knowing it: a send puts an entry behind all others, a status turns and frees
 -- waiting ones alone, and a take lets one entry go.
 -- Assumes nothing.
-use mathlib.Core.Path.{_≡_, refl, sym, _∙_, ap}
+use mathlib.Core.Path.{_≡_, refl, ap}
 use mathlib.Core.Bool.{Bool, true, false}
 use mathlib.Core.List.{List, [], _∷_, _++_}
-use mathlib.Core.Logic.{_⊎_, inl, inr, ⊎-elim}
+use mathlib.Core.Logic.{_⊎_, inl, inr}
 use Prim.Native.Nat.{ℕ, zero, suc, _+_, _-_, _≤_, _<_}
 use native.Mathlib.Omega.{arith}
 use borrow.Author.Tests.{lt-ltb, le-ltb}
-use lib.Dec.{ltb, leb}
 use lib.ListN.{length, drop}
-use Rattle.basics.specs.Basics.{if_then_else_, _and_}
+use Rattle.basics.specs.Basics.{if_then_else_}
 use Rattle.basics.proofs.Choices.{tested, order}
 use Rattle.bearer.specs.Ledger.{Entry, waits, waitingAt, placeWithout}
 use Rattle.bearer.specs.LedgerMeaning.{waitingIn, inFront, TurnedLost, turned-end, turns, as-it-was}
-use Rattle.bearer.proofs.Master.Frees.{goes, leftOver}
+use Rattle.bearer.proofs.Master.Frees.{leftOver}
 
 -- ---- what it says
 

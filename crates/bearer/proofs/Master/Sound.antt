@@ -8,7 +8,7 @@ use mathlib.Core.Logic.{_⊎_, inl, inr, ⊎-elim}
 use Prim.Native.Nat.{ℕ, suc, _+_, _/_, _%_, _≤_, _<_}
 use native.Mathlib.Omega.{arith}
 use native.Mathlib.Nat.{mod-add-mod}
-use borrow.Author.Tests.{ltb-true, leb-true, leb-false, eq-eqb}
+use borrow.Author.Tests.{ltb-true, leb-false, eq-eqb}
 use lib.Dec.{eqb, leb, ltb}
 use lib.ListN.{length, drop, length-append, List·getD-append}
 use lib.Seq.{getD-append-seam}
