@@ -1,6 +1,6 @@
 -- The master's machine: what each call answers and leaves, in every state (document 01, "The master's rule" and "Refusal
--- numbers", as document 02's request Three mends rule 35). Every definition is total. An entry bears a label of any type, which no definition looks at: the engine's
--- entries bear none (Unit), and demand 3 writes the packet's own name on it.
+-- numbers", with rule 35 as request Three of document 02 mends it). Every definition is total. An entry bears a label of any type, which no
+-- definition looks at: the engine's entries bear none (Unit), and demand 3 writes the packet's own name on it.
 -- Assumes nothing.
 use mathlib.Core.Bool.{Bool, true, false, not}
 use mathlib.Core.List.{List, [], _∷_, _++_}
@@ -130,12 +130,12 @@ pastLast l o p = ltb (pdcpsTo l o (l .sent)) (pdcpsTo l o p)
 abbrev pub withinHalf : {A : Type 0} → Ledger A → ℕ → ℕ → Bool
 withinHalf l o p = ltb (pdcpsTo l o p) (pdcps (l .bits) / 2)
 
--- both, seen from the oldest of entries; where there are none, any PDCP number
+-- both, seen from the first of entries; where there are none, any PDCP number
 abbrev pub follows : {A : Type 0} → Ledger A → ℕ → List (Entry A) → Bool
 follows l p [] = true
 follows l p (e ∷ es) = pastLast l (e .pdcp) p and withinHalf l (e .pdcp) p
 
--- the PDCP order: a PDCP number differs from H, and follows if an entry waits
+-- the PDCP order: a PDCP number differs from H, and follows the oldest waiting entry, if one waits
 abbrev pub inOrder : {A : Type 0} → Ledger A → ℕ → Bool
 inOrder l p = not (eqb p (l .highest)) and follows l p (drop (l .oldest) (l .entries))
 
