@@ -159,8 +159,8 @@ abbrev pub recording : ℕ → K.Keeper
 recording n = K.freshKeeper 12 1000 1 with-records records n
 
 -- a master that holds so many entries
-abbrev pub holding : ℕ → G.Ledger Unit
-holding n = G.freshLedger {A = Unit} 12 1000 1 with-sent 999 with-entries map (λ (i : ℕ). G.newEntry i i tt) (below n)
+abbrev pub filled : ℕ → G.Ledger Unit
+filled n = G.freshLedger {A = Unit} 12 1000 1 with-sent 999 with-entries map (λ (i : ℕ). G.newEntry i i tt) (below n)
 
 -- two ranges of the short form, and a frame that bears them
 abbrev pub two-short : List Range
@@ -190,6 +190,13 @@ closed = G.fresh 12 0 0 true
 -- both sizes 0, and the range of one number, in a frame
 abbrev pub one-range : ℕ → List ℕ
 one-range n = replicate 8 0 ++ (0x01 ∷ 0x00 ∷ n ∷ 0x00 ∷ n ∷ 0x00 ∷ 0x00 ∷ [])
+
+-- a frame of the short form that names a highest and no range, and one that names a number and the highest 4095
+abbrev pub highest-only : ℕ → List ℕ
+highest-only h = 0x10 ∷ 0x00 ∷ h ∷ replicate 11 0
+
+abbrev pub lost-only : ℕ → List ℕ
+lost-only n = 0x11 ∷ 0x0F ∷ 0xFF ∷ one-range n
 
 -- a status by which so many were freed and so many became lost, and what was taken
 abbrev pub counts : ℕ → ℕ → Outcome G.Accepted
@@ -280,14 +287,21 @@ abbrev pub rested : List Case
 rested =
     -- with none waiting any PDCP number but H; with one waiting past the last sent, and less than 2^(L-1) past the oldest
     turns (G.openLedger 12 0 0) (sends 4095 (refused 35) ∷ sends 5 (done 0) ∷ sends 5 (refused 35) ∷ sends 4 (refused 35) ∷ sends 2053 (refused 35) ∷ sends 2052 (done 1) ∷ [])
-    -- all was freed, and then went over the master alone: only H is refused, and a PDU may be sent again
-    ∷ turns (G.openLedger 12 0 0) (sends 7 (done 0) ∷ sends 9 (done 1) ∷ accepts (0x10 ∷ 0x00 ∷ 0x09 ∷ replicate 11 0) (counts 2 0) ∷ sends 9 (refused 35) ∷ sends 7 (done 2) ∷ [])
-    ∷ turns (G.openLedger 12 0 0) (sends 9 (done 0) ∷ accepts (0x10 ∷ 0x00 ∷ 0x09 ∷ replicate 11 0) (counts 1 0) ∷ sends 2057 (done 1) ∷ sends 8 (done 2) ∷ [])
-    -- a lost entry in front doesn't count, taken or not
-    ∷ turns (G.openLedger 12 0 0) (sends 0 (done 0) ∷ sends 1 (done 1) ∷ sends 2 (done 2) ∷ accepts (0x11 ∷ 0x0F ∷ 0xFF ∷ one-range 0) (counts 0 1) ∷ sends 2049 (refused 35) ∷ sends 2048 (done 3) ∷ [])
-    ∷ turns (G.openLedger 12 0 0) (sends 0 (done 0) ∷ sends 1 (done 1) ∷ sends 2 (done 2) ∷ accepts (0x11 ∷ 0x0F ∷ 0xFF ∷ one-range 0) (counts 0 1) ∷ takes (taken 0 0) ∷ sends 2049 (refused 35) ∷ sends 2048 (done 3) ∷ [])
-    -- the last sent counts, lost or taken
-    ∷ turns (G.openLedger 12 0 0) (sends 0 (done 0) ∷ sends 3 (done 1) ∷ accepts (0x11 ∷ 0x0F ∷ 0xFF ∷ one-range 1) (counts 0 1) ∷ sends 3 (refused 35) ∷ takes (taken 1 3) ∷ sends 3 (refused 35) ∷ sends 4 (done 2) ∷ [])
+    -- all was freed, and then went over the master alone: only H is refused, and a PDU may be sent again; with entries waiting H is refused too
+    ∷ turns (G.openLedger 12 0 0) (sends 7 (done 0) ∷ sends 9 (done 1) ∷ accepts (highest-only 9) (counts 2 0) ∷ sends 9 (refused 35) ∷ sends 7 (done 2) ∷ [])
+    ∷ turns (G.openLedger 12 0 0) (sends 9 (done 0) ∷ accepts (highest-only 9) (counts 1 0) ∷ sends 2057 (done 1) ∷ sends 8 (done 2) ∷ [])
+    ∷ turns (G.openLedger 12 0 0) (sends 9 (done 0) ∷ accepts (highest-only 9) (counts 1 0) ∷ sends 7 (done 1) ∷ sends 9 (refused 35) ∷ sends 8 (done 2) ∷ sends 10 (done 3) ∷ [])
+    -- all became lost: so too, and the last sent isn't looked at, held or taken
+    ∷ turns (G.openLedger 12 0 0) (sends 5 (done 0) ∷ accepts (lost-only 0) (counts 0 1) ∷ sends 5 (done 1) ∷ takes (taken 0 5) ∷ sends 5 (refused 35) ∷ sends 2052 (done 2) ∷ [])
+    ∷ turns (G.openLedger 12 0 0) (sends 50 (done 0) ∷ accepts (lost-only 0) (counts 0 1) ∷ sends 40 (done 1) ∷ sends 50 (done 2) ∷ [])
+    -- a lost entry in front doesn't count, taken or not, nor does one behind
+    ∷ turns (G.openLedger 12 0 0) (sends 0 (done 0) ∷ sends 1 (done 1) ∷ sends 2 (done 2) ∷ accepts (lost-only 0) (counts 0 1) ∷ sends 2049 (refused 35) ∷ sends 2047 (done 3) ∷ sends 2048 (done 4) ∷ [])
+    ∷ turns (G.openLedger 12 0 0) (sends 0 (done 0) ∷ sends 1 (done 1) ∷ sends 2 (done 2) ∷ accepts (lost-only 0) (counts 0 1) ∷ takes (taken 0 0) ∷ sends 2049 (refused 35) ∷ sends 2048 (done 3) ∷ [])
+    ∷ turns (G.openLedger 12 0 0) (sends 0 (done 0) ∷ sends 1 (done 1) ∷ accepts (lost-only 1) (counts 0 1) ∷ sends 2048 (refused 35) ∷ sends 2047 (done 2) ∷ [])
+    -- nor one that comes to stand in front when others are freed
+    ∷ turns (G.openLedger 12 0 0) (sends 0 (done 0) ∷ sends 1 (done 1) ∷ sends 2 (done 2) ∷ accepts (lost-only 1) (counts 0 1) ∷ accepts (highest-only 0) (counts 1 0) ∷ sends 2050 (refused 35) ∷ sends 2049 (done 3) ∷ [])
+    -- with entries waiting the last sent counts, lost or taken
+    ∷ turns (G.openLedger 12 0 0) (sends 0 (done 0) ∷ sends 3 (done 1) ∷ accepts (lost-only 1) (counts 0 1) ∷ sends 3 (refused 35) ∷ takes (taken 1 3) ∷ sends 3 (refused 35) ∷ sends 4 (done 2) ∷ [])
     ∷ []
 
 -- a master holds the two sizes in their order; the stores of runs, of records and of entries; Final where 162 runs are listed, and 163
@@ -298,8 +312,8 @@ stores =
     ∷ secondary (done (listing 256)) (arrives 1256 0 (refused 14) ∷ []) 1000
     ∷ secondary (done (recording 511)) (arrives 1000 0 (done 0) ∷ []) 1001
     ∷ secondary (done (recording 512)) (arrives 1000 0 (refused 15) ∷ []) 1000
-    ∷ master (done (holding 511)) 1000 (done 1000)
-    ∷ master (done (holding 512)) 1000 (refused 36)
+    ∷ master (done (filled 511)) 1000 (done 1000)
+    ∷ master (done (filled 512)) 1000 (refused 36)
     ∷ secondary (done (listing 162)) (reports 0 0 true (status-of (record { long = false; final = true; highest = 0; desired = 0; minimum = 0; ranges = runs 162 })) ∷ []) 1000
     ∷ secondary (done (listing 163)) (reports 0 0 true (refuse 22) ∷ []) 1000
     ∷ []
@@ -348,7 +362,7 @@ master-orders =
     -- send: 9 before 10, 10 before 35, 35 before 36
     master (done closed) 4096 (refused 9)
     ∷ master (G.openLedger 12 0 0) 8191 (refused 10)
-    ∷ master (done (holding 512)) 999 (refused 35)
+    ∷ master (done (filled 512)) 999 (refused 35)
     -- accept: 9 before 1, 6 before 31, 31 before 32, 32 before 33, 33 before 34, 34
     ∷ not-accepted (done closed) [] 9
     ∷ not-accepted (G.openLedger 12 0 0) (0x21 ∷ replicate 11 0 ++ (1 ∷ 0 ∷ [])) 6
@@ -357,7 +371,7 @@ master-orders =
     ∷ not-accepted (G.openLedger 12 0 0) (0x11 ∷ 0x00 ∷ 0x09 ∷ one-range 7) 33
     ∷ not-accepted (G.openLedger 12 0 0) (0x10 ∷ 0x00 ∷ 0x09 ∷ replicate 11 0) 34
     -- take: 38
-    ∷ not-taken (done (holding 512)) 38
+    ∷ not-taken (done (filled 512)) 38
     ∷ []
 
 -- all of them, part by part
@@ -382,7 +396,7 @@ circles-hold : AllHold circles
 circles-hold = ((refl, refl), ((refl, (refl, (refl, refl))), ((refl, refl), ((refl, (refl, (refl, refl))), ((refl, (refl, (refl, (refl, (refl, (refl, (refl, refl))))))), ((refl, (refl, (refl, (refl, (refl, refl))))), ((refl, (refl, (refl, (refl, tt)))), ((refl, (refl, (refl, (refl, tt)))), ((refl, refl), ((refl, refl), ((refl, refl), ((refl, refl), tt))))))))))))
 
 rested-hold : AllHold rested
-rested-hold = ((refl, (refl, (refl, (refl, (refl, (refl, tt)))))), ((refl, (refl, (refl, (refl, (refl, tt))))), ((refl, (refl, (refl, (refl, tt)))), ((refl, (refl, (refl, (refl, (refl, (refl, tt)))))), ((refl, (refl, (refl, (refl, (refl, (refl, (refl, tt))))))), ((refl, (refl, (refl, (refl, (refl, (refl, (refl, tt))))))), tt))))))
+rested-hold = ((refl, (refl, (refl, (refl, (refl, (refl, tt)))))), ((refl, (refl, (refl, (refl, (refl, tt))))), ((refl, (refl, (refl, (refl, tt)))), ((refl, (refl, (refl, (refl, (refl, (refl, tt)))))), ((refl, (refl, (refl, (refl, (refl, (refl, tt)))))), ((refl, (refl, (refl, (refl, tt)))), ((refl, (refl, (refl, (refl, (refl, (refl, (refl, tt))))))), ((refl, (refl, (refl, (refl, (refl, (refl, (refl, tt))))))), ((refl, (refl, (refl, (refl, (refl, tt))))), ((refl, (refl, (refl, (refl, (refl, (refl, (refl, tt))))))), ((refl, (refl, (refl, (refl, (refl, (refl, (refl, tt))))))), tt)))))))))))
 
 stores-hold : AllHold stores
 stores-hold = ((refl, refl), ((refl, refl), ((refl, refl), ((refl, refl), ((refl, refl), (refl, (refl, ((refl, refl), ((refl, refl), tt)))))))))

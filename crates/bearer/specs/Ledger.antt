@@ -240,7 +240,8 @@ pub record Accepted : Type 0 where
 abbrev pub countsOf : Status → ℕ → ℕ → Accepted
 countsOf s f n = record { freed = f; lost = n; final = s .final }
 
--- the state after an accepted status; no entry that it leaves waits in front of the oldest that waited before
+-- the state after an accepted status; the oldest waiting entry is looked for from where it stood, since in a reached state all in front of that is
+-- lost and stays
 abbrev pub acceptedState : {A : Type 0} → Ledger A → Status → List (Entry A) → Ledger A
 acceptedState l s es = holding (l with-highest s .highest with-closed s .final with-sizes-of s) (l .oldest) es
 
@@ -290,7 +291,7 @@ pub record Taken : Type 0 where
 abbrev pub takenOf : {A : Type 0} → Entry A → Taken
 takenOf e = record { number = e .number; pdcp = e .pdcp }
 
--- the place of what stood at a place, when an entry left that stood behind so many: one less if that was in front of it
+-- a place, when an entry at another has left: one less if that stood in front of it; if it stood there itself, the next one stands there now
 abbrev pub placeWithout : ℕ → ℕ → ℕ
 placeWithout at place = if ltb at place then place - 1 else place
 

@@ -1,5 +1,5 @@
--- What the master's machine means: every ledger that calls reach from open is as document 01 says, on packet indexes that never
--- roll over, whatever frames were accepted on the way. Packet i is the i-th accepted send. The statements are `LedgersMean`, `SendsMean`,
+-- What the master's machine means: every ledger that calls reach from open is as document 01 says, with 35 as request Three of document 02 mends it,
+-- on packet indexes that never roll over, whatever frames were accepted on the way. Packet i is the i-th accepted send. The statements are `LedgersMean`, `SendsMean`,
 -- `TakesMean` and `StatusesMean`, at the end; they are proved in proofs/Master/LedgerMeans.antt.
 -- Assumes nothing.
 use mathlib.Core.Path.{_≡_}
@@ -98,7 +98,7 @@ abbrev pub inFront : List (Entry ℕ) → List (Entry ℕ)
 inFront [] = []
 inFront (e ∷ es) = if isWaiting e then [] else e ∷ inFront es
 
--- the PDCP number of the oldest of entries
+-- the PDCP number of the oldest of entries; 0 for none
 abbrev pub oldestPdcp : List (Entry ℕ) → ℕ
 oldestPdcp [] = 0
 oldestPdcp (e ∷ es) = e .pdcp
@@ -130,7 +130,8 @@ pub record LedgerMeans (L first f : ℕ) (l : Ledger ℕ) (b : Books) : Type 0 w
   pub next-is : l .next ≡ numberOf L first (length (b .sent))
   -- the ledger knows where the oldest waiting entry stands: behind the lost ones in front of it
   pub oldest-is : l .oldest ≡ length (inFront (l .entries))
-  -- forward from that of the oldest one the waiting entries' PDCP numbers strictly rise, each less than 2^(L-1); they are distinct, and none is H
+  -- measured forward from the PDCP number of the oldest waiting entry, those of the waiting entries strictly rise and stay below 2^(L-1); no two are
+  -- the same, and none is H
   pub pdcps-rise : Rising (map (fromOldest L l) (waitingIn (l .entries)))
   pub within-half : Each (λ (e : Entry ℕ). fromOldest L l e < 2 ^ (L - 1)) (waitingIn (l .entries))
   pub one-pdcp : (i j : ℕ) → In i (packets (waitingIn (l .entries))) → In j (packets (waitingIn (l .entries))) → getD (b .sent) i 0 ≡ getD (b .sent) j 0 → i ≡ j

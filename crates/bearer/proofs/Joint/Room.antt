@@ -1,5 +1,5 @@
 -- Why the secondary gives none of 13, 14 and 15 while both ends are joined: whatever it holds and lists, and what arrives, waits at the master,
--- which holds at most 512.
+-- which holds at most 512 (14, 15), and from any that waits on at most half the PDCP numbers were sent, which are no more than M/2 (13).
 -- Assumes nothing.
 use mathlib.Core.Path.{_≡_, _∙_}
 use mathlib.Core.Bool.{true, false}
