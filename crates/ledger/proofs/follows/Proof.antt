@@ -1,4 +1,4 @@
--- `in_order`: both distances are the machine's, and so are the tests on them. Assumes nothing.
+-- `follows`: both distances are the machine's, and so are the tests on them. Assumes nothing.
 use mathlib.Core.Path.{_≡_}
 use Prim.Native.Nat.{ℕ, _^_, _<_, min}
 use native.Mathlib.Omega.{arith}
@@ -6,8 +6,8 @@ use borrow.Author.Tests.{lt-ltb, le-ltb}
 use Rattle.circle.specs.Circle.{forward}
 use Rattle.circle.specs.Lengths.{pdcps, lengthIn}
 use borrow.Author.Needs.{needs}
-use Rattle.ledger.proofs.in_order.Statement.{statement}
-use Rattle.ledger.proofs.in_order.Tie as tie
+use Rattle.ledger.proofs.follows.Statement.{statement}
+use Rattle.ledger.proofs.follows.Tie as tie
 
 -- below 32 bits a distance is the one on the circle of PDCP numbers
 reduced : (L x a b d : ℕ) → (x ≡ L) × (x < 32) → d ≡ forward (2 ^ min x 32) a b → d ≡ forward (pdcps L) a b
@@ -16,10 +16,10 @@ reduced L x a b d h e =
     rw least at e
 
 -- both distances
-to-sent : (k : tie.After-forward2) → k .before .forward .result ≡ forward (pdcps (lengthIn (k .before .before .before .args .bits))) (k .before .before .before .args .highest) (k .before .before .before .args .sent)
+to-sent : (k : tie.After-forward2) → k .before .forward .result ≡ forward (pdcps (lengthIn (k .before .before .before .args .bits))) (k .before .before .before .args .oldest) (k .before .before .before .args .sent)
 to-sent k = reduced _ _ _ _ _ (k .before .before .length-in .ensures) (k .before .forward .ensures)
 
-to-pdcp : (k : tie.After-forward2) → k .forward2 .result ≡ forward (pdcps (lengthIn (k .before .before .before .args .bits))) (k .before .before .before .args .highest) (k .before .before .before .args .pdcp)
+to-pdcp : (k : tie.After-forward2) → k .forward2 .result ≡ forward (pdcps (lengthIn (k .before .before .before .args .bits))) (k .before .before .before .args .oldest) (k .before .before .before .args .pdcp)
 to-pdcp k = reduced _ _ _ _ _ (k .before .before .length-in .ensures) (k .forward2 .ensures)
 
 length-in-requires : tie.Need-length-in-requires
@@ -42,5 +42,5 @@ returns-2 c =
     let k = c .before .before in
     rw (← to-sent k, ← to-pdcp k, ← c .pdcps .ensures, lt-ltb _ _ (c .before .if1 .left))
 
-pub in-order-spec : {M : Type 1} → statement M
-in-order-spec = tie.close (tie.spec length-in-requires forward-requires forward-requires-2 returns pdcps-requires returns-2)
+pub follows-spec : {M : Type 1} → statement M
+follows-spec = tie.close (tie.spec length-in-requires forward-requires forward-requires-2 returns pdcps-requires returns-2)
