@@ -1,6 +1,6 @@
 -- `follows`: both distances are the machine's, and so are the tests on them. Assumes nothing.
 use mathlib.Core.Path.{_≡_}
-use Prim.Native.Nat.{ℕ, _^_, _<_, min}
+use Prim.Native.Nat.{ℕ, _^_, _≤_, _<_, min}
 use native.Mathlib.Omega.{arith}
 use borrow.Author.Tests.{lt-ltb, le-ltb}
 use Rattle.circle.specs.Circle.{forward}
@@ -32,7 +32,10 @@ forward-requires-2 : tie.Need-forward-requires-2
 forward-requires-2 c κs = search needs
 
 returns : tie.Need-returns
-returns c = rw (← to-sent (c .before), ← to-pdcp (c .before), le-ltb _ _ (c .if1 .taken))
+returns c =
+    let k = c .before in
+    let not-past : k .forward2 .result ≤ k .before .forward .result = omega arith in
+    rw (← to-sent k, ← to-pdcp k, le-ltb _ _ not-past)
 
 pdcps-requires : tie.Need-pdcps-requires
 pdcps-requires c κs = search needs
@@ -40,7 +43,8 @@ pdcps-requires c κs = search needs
 returns-2 : tie.Need-returns-2
 returns-2 c =
     let k = c .before .before in
-    rw (← to-sent k, ← to-pdcp k, ← c .pdcps .ensures, lt-ltb _ _ (c .before .if1 .left))
+    let past : k .before .forward .result < k .forward2 .result = omega arith in
+    rw (← to-sent k, ← to-pdcp k, ← c .pdcps .ensures, lt-ltb _ _ past)
 
 pub follows-spec : {M : Type 1} → statement M
 follows-spec = tie.close (tie.spec length-in-requires forward-requires forward-requires-2 returns pdcps-requires returns-2)
