@@ -14,7 +14,11 @@ use x2u::frame::LONGEST;
 /// Bearers that begin at most 700 packets before their circles roll over,
 /// with the long form as often as `long` says.
 pub fn openings(long: u32) -> impl Strategy<Value = Opening> {
-    let bits = prop_oneof![6 => Just(12_u32), 6 => Just(15), long => Just(18)];
+    openings_of(prop_oneof![6 => Just(12_u32), 6 => Just(15), long => Just(18)])
+}
+
+/// Such bearers with PDCP numbers of so many bits.
+pub fn openings_of(bits: impl Strategy<Value = u32>) -> impl Strategy<Value = Opening> {
     (bits, 0_u64..700, 0_u64..700).prop_map(|(bits, back, pdcp_back)| {
         let mut opening = Opening {
             bits,
@@ -119,10 +123,12 @@ pub fn steps() -> impl Strategy<Value = Step> {
     ]
 }
 
-/// Rests up to two turns of the PDCP circle, many of half a turn or a whole one.
+/// Rests up to two turns of the PDCP circle, many of half a turn or a whole one:
+/// one PDU less than that, and the next bears H.
 fn rests() -> impl Strategy<Value = Step> {
-    let parts = prop_oneof![1 => Just(512_u32), 1 => Just(1_024), 2 => 0_u32..2_048];
-    (parts, -3_i32..4).prop_map(|(part, off)| Step::Rest { part, off })
+    let parts = prop_oneof![1 => Just(512_u32), 2 => Just(1_024), 2 => 0_u32..2_048];
+    let offs = prop_oneof![2 => Just(-1_i32), 3 => -3_i32..4];
+    (parts, offs).prop_map(|(part, off)| Step::Rest { part, off })
 }
 
 /// A bearer being played.

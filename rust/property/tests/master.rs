@@ -4,12 +4,12 @@ use model::demand::waiting_in_order;
 use model::master::Fate as Told;
 use model::{Master, Opening};
 use property::bearer::openings;
+use property::suite::holds_on;
 use proptest::collection::vec;
 use proptest::prelude::*;
 use proptest::sample::{Index, select};
-use proptest::test_runner::TestRunner;
 use soak::order::{Before, Edge, Sends};
-use std::cell::Cell;
+use std::cell::RefCell;
 use x2u::circle::Circle;
 use x2u::frame::{self, Frame, LONGEST, Range, Report};
 use x2u::ledger::{Entry, Fate};
@@ -321,24 +321,16 @@ impl Test {
 
 #[test]
 fn the_ledger_is_the_naive_one() {
-    let met = Cell::new(Sends::default());
-    let config = ProptestConfig {
-        cases: 300,
-        failure_persistence: None,
-        ..ProptestConfig::default()
-    };
+    let sends = RefCell::new(Sends::default());
     let bearers = (openings(6), vec(calls(), 1..80));
-    let outcome = TestRunner::new(config).run(&bearers, |(opening, calls)| {
+    holds_on(300, &bearers, |(opening, calls)| {
         let mut test = Test::new(opening);
         for call in &calls {
             test.make(call)?;
         }
-        let mut all = met.get();
-        all.add(test.sends);
-        met.set(all);
+        sends.borrow_mut().add(test.sends);
         Ok(())
     });
-    outcome.unwrap_or_else(|failure| panic!("{failure}"));
-    let met = met.get();
-    assert!(met.least() >= 50, "{met}");
+    let sends = sends.into_inner();
+    assert!(sends.least() >= 50, "{sends}");
 }

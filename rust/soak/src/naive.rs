@@ -14,26 +14,34 @@ struct Naive {
 }
 
 impl Naive {
-    fn open([bits, first, first_pdcp]: [u32; 3]) -> Self {
+    fn open([bits, first, first_pdcp]: [u32; 3]) -> Result<Self, Refusal> {
+        Bearer::judged(bits, first, first_pdcp)?;
         let opening = Opening {
             bits,
             first: first.into(),
             first_pdcp: first_pdcp.into(),
         };
-        Self {
+        Ok(Self {
             opening,
             secondary: Secondary::open(opening),
             master: Master::open(opening),
+        })
+    }
+
+    /// The answer to a call, on the bearer opened last.
+    fn make(opened: &mut Option<Self>, call: Call<'_>) -> Result<String, Refusal> {
+        if let Call::Open(numbers) = call {
+            *opened = Some(Self::open(numbers)?);
+        }
+        match opened {
+            Some(naive) => naive.answer(call),
+            None => Ok("unopened".to_owned()),
         }
     }
 
     fn answer(&mut self, call: Call<'_>) -> Result<String, Refusal> {
         Ok(match call {
-            Call::Open([bits, first, first_pdcp]) => {
-                Bearer::judged(bits, first, first_pdcp)?;
-                *self = Self::open([bits, first, first_pdcp]);
-                "ok".to_owned()
-            }
+            Call::Open(_) => "ok".to_owned(),
             Call::Arrive([number, pdcp]) => {
                 format!("lost\t{}", self.secondary.arrive(number, pdcp)?)
             }
@@ -157,7 +165,7 @@ fn read_back(answer: &str) -> String {
 /// Plays lines on the library and on the model; those that are no calls are left
 /// out. Answers what both said, or where they differ.
 pub fn alike<'a>(lines: impl IntoIterator<Item = &'a [u8]>) -> Result<Vec<String>, String> {
-    let mut naive = Naive::open([12, 0, 0]);
+    let mut naive = None;
     let mut replay = Replay::default();
     let mut answers = Vec::new();
     for (place, line) in lines.into_iter().enumerate() {
@@ -169,7 +177,7 @@ pub fn alike<'a>(lines: impl IntoIterator<Item = &'a [u8]>) -> Result<Vec<String
         let printed = replay.answer(Some(line), &mut out);
         printed.map_err(|error| error.to_string())?;
         let answer = String::from_utf8_lossy(&out).trim_end().to_owned();
-        let expected = naive.answer(call);
+        let expected = Naive::make(&mut naive, call);
         let expected = expected.unwrap_or_else(|refusal| format!("refused\t{}", refusal.number()));
         if read_back(&answer) != expected {
             return Err(format!(

@@ -5,6 +5,8 @@ use soak::naive::alike;
 use soak::order::Sends;
 use soak::rng::Rng;
 use soak::script::Script;
+use std::fs;
+use std::path::Path;
 use x2u::frame::LONGEST;
 
 /// Plays a script on the library and on the model. Answers what both said.
@@ -21,6 +23,26 @@ fn the_library_is_the_naive_model_on_scripts() {
         let script = Script::with_bits(Rng::new(rng.bits()), bits);
         let _ = play(&moods::in_moods(script));
     }
+}
+
+/// The calls that the gate plays on the product, with the answers they should have.
+#[test]
+fn library_and_model_give_the_answers_on_paper() {
+    let folder = Path::new(env!("CARGO_MANIFEST_DIR")).join("../../tests/calls");
+    let mut cases = 0;
+    for file in fs::read_dir(folder).unwrap() {
+        let text = fs::read_to_string(file.unwrap().path()).unwrap();
+        for case in text.split("\n\n").filter(|case| case.contains(" = ")) {
+            let lines = case.lines().filter_map(|line| line.split_once(" = "));
+            let (calls, wanted): (Vec<_>, Vec<_>) = lines
+                .map(|(call, answer)| (call.replace(' ', "\t"), answer.replace(' ', "\t")))
+                .unzip();
+            let answers = alike(calls.iter().map(String::as_bytes));
+            assert_eq!(answers, Ok(wanted), "{case}");
+            cases += 1;
+        }
+    }
+    assert!(cases > 20, "{cases} cases");
 }
 
 /// Rests of every length, and sends at the limits of the PDCP order.
