@@ -1,6 +1,6 @@
 #!/usr/bin/env bash
-# Document 01's bench sheet as request One left it, played call by call on the proved engines by replay: the cases of tests/calls/, 163
-# listed runs, and half a circle of packets.
+# Document 01's bench sheet as requests One and Three left it, played call by call on the proved engines by replay: the cases of
+# tests/calls/, a bearer that rested among them, 163 listed runs, half a circle of packets, and a hundred rests.
 set -u
 cd "$(dirname "$0")/.."
 passed=0
@@ -24,7 +24,7 @@ play() {
   : >"$work/calls"
 }
 
-# the cases of a file, each behind its heading
+# the cases of each file, each behind its heading
 name=
 : >"$work/calls"
 while IFS= read -r line; do
@@ -33,7 +33,7 @@ while IFS= read -r line; do
   '#'*) name=${line#\# } ;;
   *) printf '%s\n' "$line" >>"$work/calls" ;;
   esac
-done < <(cat tests/calls/bench-sheet.txt && echo)
+done < <(for file in tests/calls/*.txt; do cat "$file" && echo; done)
 
 # 163 listed runs: every second packet is missing, and all that came is confirmed. A status carries 162 and holds the highest
 # back before the run that it leaves out; with Final it is refused; the master frees what it may; the next status has the rest
@@ -74,6 +74,31 @@ awk 'BEGIN {
   print "send 0 = sent 32768"
 }' >"$work/calls"
 play "half a circle of packets"
+
+# A bearer that rests a hundred times: before each pair of packets over X2 a part of the PDCP circle goes over the master alone, from none of
+# it to nearly twice around. The first of the pair is lost, reported, and left with the master. What bears H is refused, and goes there too
+for bits in 12 15 18; do
+  awk -v bits=$bits 'BEGIN {
+    size = 2 ^ bits; m = bits == 18 ? 2 ^ 24 : 2 ^ 16
+    frame = bits == 18 ? "21%06x000000070000000601%06x%06x000000" : "11%04x000000070000000601%04x%04x0000"
+    n = m - 41; highest = size - 1; p = 0; lost = ""
+    printf "open %d %d 0 = ok\n", bits, n
+    for (i = 0; i < 100; i++) {
+      if (p == highest) { printf "send %d = refused 35\n", p; p = (p + 1) % size }
+      printf "send %d = sent %d\nsend %d = refused 35\nsend %d = refused 35\n", p, n, p, (p + size / 2) % size
+      lost = lost n ":" p ":l"; first = n; n = (n + 1) % m; p = (p + 1) % size
+      if (p == highest) { printf "send %d = refused 35\n", p; p = (p + 1) % size }
+      printf "send %d = sent %d\narrive %d %d = lost 0\nexpire = lost 1\nconfirm %d = ok\n", p, n, n, p, n
+      printf "status 7 6 0 1018 = frame " frame "\naccept " frame " = freed 1 lost 1 final 0\n", p, first, first, p, first, first
+      highest = p; n = (n + 1) % m
+      printf "ledger = ledger %d %d %d 0 7 6 %s\n", n, highest, highest, lost
+      lost = lost ","
+      rest = i % 10 == 4 ? size - 2 : i % 10 == 9 ? size - 1 : int(i * size / 51)
+      p = (p + 1 + rest) % size
+    }
+  }' >"$work/calls"
+  play "a hundred rests, L $bits"
+done
 
 echo "$passed passed, $failed failed"
 [ "$failed" -eq 0 ]

@@ -80,10 +80,30 @@ fn report(highest: u32, is_final: bool) -> Report {
     }
 }
 
+/// A status after which nothing waits: some entries are lost, the others freed.
+pub(super) fn settle_all(script: &mut Script) {
+    let entries: Vec<Entry> = script.ends.ledger.entries().copied().collect();
+    let named = script.rng.pick(&[0, 10, 50, 100]);
+    let ranges = waiting_ranges(script, &entries, named);
+    let circle = script.ends.bearer.numbers();
+    let is_named = |entry: &Entry| {
+        let within = |range: &Range| {
+            circle.forward(range.start, entry.number) <= circle.forward(range.start, range.end)
+        };
+        ranges.iter().any(within)
+    };
+    let left = |entry: &&Entry| entry.fate == Fate::Waiting && !is_named(entry);
+    let last = entries.iter().rfind(left).map(|entry| entry.pdcp);
+    let highest = last.unwrap_or(script.ends.ledger.highest());
+    let octets = frames::status(form_of(script), &report(highest, false), &ranges);
+    script.accept(&octets);
+}
+
 /// A status that the master accepts, or would but for one thing.
 fn aimed(script: &mut Script) -> Vec<u8> {
     let entries: Vec<Entry> = script.ends.ledger.entries().copied().collect();
-    let mut ranges = waiting_ranges(script, &entries);
+    let named = script.rng.pick(&[0, 0, 3, 20, 80]);
+    let mut ranges = waiting_ranges(script, &entries, named);
     if script.rng.chance(30) && !ranges.is_empty() {
         spoil(script, &mut ranges, &entries);
     }
@@ -103,9 +123,8 @@ fn aimed(script: &mut Script) -> Vec<u8> {
     octets
 }
 
-/// Some of the waiting entries, as ranges.
-fn waiting_ranges(script: &mut Script, entries: &[Entry]) -> Vec<Range> {
-    let named = script.rng.pick(&[0, 0, 3, 20, 80]);
+/// So many in 100 of the waiting entries, as ranges.
+fn waiting_ranges(script: &mut Script, entries: &[Entry], named: u32) -> Vec<Range> {
     let circle = script.ends.bearer.numbers();
     let mut ranges: Vec<Range> = Vec::new();
     for entry in entries.iter().filter(|entry| entry.fate == Fate::Waiting) {
@@ -166,11 +185,12 @@ pub(super) fn numbers(script: &mut Script) {
             0 => number ^ script.rng.within(0..4),
             _ => script.rng.within(0..4_096),
         };
-        match script.rng.within(0..5) {
+        match script.rng.within(0..6) {
             0 => script.bad_open(),
             1 => script.arrive(number, pdcp),
             2 => script.confirm(number),
             3 => script.send(pdcp),
+            4 => script.send_at_edge(),
             _ => script.take(),
         }
     }
