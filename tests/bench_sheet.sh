@@ -1,6 +1,7 @@
 #!/usr/bin/env bash
 # Document 01's bench sheet as requests One and Three left it, played call by call on the proved engines by replay: the cases of
-# tests/calls/, a bearer that rested among them, 163 listed runs, half a circle of packets, and a hundred rests.
+# tests/calls/, a bearer that rested and what docs/LIMITS.md says among them, 163 listed runs, half a circle of packets, a burst of all, and a
+# hundred rests.
 set -u
 cd "$(dirname "$0")/.."
 passed=0
@@ -59,7 +60,8 @@ play "163 listed runs"
 
 # Half a circle of packets, in batches of 256: each is sent, arrives, is confirmed, reported and freed. Then 32768 were sent, and base is the
 # next. A copy of packet 0 has 32767 sent after it, fewer than M/2, so demand 3 allows it: it lies opposite base, and one of packet 1 behind
-# it. After one more send demand 3 allows no copy of packet 0
+# it. After one more send demand 3 allows no copy of packet 0; one that comes all the same is taken for a packet to come, numbers that were never
+# sent are given up, and the master refuses the status that says so (docs/LIMITS.md)
 awk 'BEGIN {
   print "open 15 0 0 = ok"
   for (p = 0; p < 32768; p += 256) {
@@ -71,9 +73,22 @@ awk 'BEGIN {
   print "ledger = ledger 32768 32767 32767 0 7 6 none"
   print "arrive 0 0 = refused 18"
   print "arrive 1 1 = refused 11"
-  print "send 0 = sent 32768"
+  print "send 0 = sent 32768\narrive 32768 0 = lost 0\nconfirm 32768 = ok"
+  print "status 7 6 0 14 = frame 1000000000000700000006000000\naccept 1000000000000700000006000000 = freed 1 lost 0 final 0"
+  print "arrive 0 0 = lost 32512"
+  print "status 7 6 0 18 = frame 1100000000000700000006018001ff000000\naccept 1100000000000700000006018001ff000000 = refused 33"
 }' >"$work/calls"
 play "half a circle of packets"
+
+# A burst drops all that the master holds: nothing arrives behind it, so nothing is given up, no status frees anything, and sends get 36
+awk 'BEGIN {
+  print "open 12 0 0 = ok"
+  for (i = 0; i < 512; i++) printf "send %d = sent %d\n", i, i
+  print "send 512 = refused 36\nexpire = refused 17"
+  print "status 7 6 0 14 = frame 100fff0000000700000006000000\naccept 100fff0000000700000006000000 = freed 0 lost 0 final 0"
+  print "send 512 = refused 36\ntake = refused 38"
+}' >"$work/calls"
+play "a burst of all"
 
 # A bearer that rests a hundred times: before each pair of packets over X2 a part of the PDCP circle goes over the master alone, from none of
 # it to nearly twice around. The first of the pair is lost, reported, and left with the master. What bears H is refused, and goes there too
