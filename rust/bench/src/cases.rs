@@ -382,6 +382,14 @@ fn ledger<S: Side>(cases: &mut Vec<Case>) {
             run: once_filled(move |turns| S::sends_behind(18, entries, turns, &octets)),
         });
     }
+    let octets = status_frame(Form::Long, &report, &[]);
+    cases.push(Case {
+        id: "accept-nothing".to_owned(),
+        title: "accept of a status that says nothing; 512 entries".to_owned(),
+        table: "ledger",
+        goal: None,
+        run: hostile::<S>(512, octets),
+    });
     let whole = [Range {
         start: 0,
         end: 16_777_215,
