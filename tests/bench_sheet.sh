@@ -1,6 +1,6 @@
 #!/usr/bin/env bash
 # Document 01's bench sheet as requests One and Three left it, played call by call on the proved engines by replay: the cases of
-# tests/calls/, a bearer that rested among them, 163 listed runs, half a circle of packets, and a hundred rests.
+# tests/calls/, a bearer that rested among them, 163 listed runs, half a circle of packets, a full ledger, and a hundred rests.
 set -u
 cd "$(dirname "$0")/.."
 passed=0
@@ -74,6 +74,16 @@ awk 'BEGIN {
   print "send 0 = sent 32768"
 }' >"$work/calls"
 play "half a circle of packets"
+
+# A full ledger: the number is judged first, then the PDCP order, then the room; and so it is with all of it lost and nothing waiting
+{
+  echo "open 15 0 0 = ok"
+  for p in $(seq 0 511); do echo "send $p = sent $p"; done
+  printf '%s\n' "send 32768 = refused 10" "send 511 = refused 35" "send 16384 = refused 35" "send 32767 = refused 35" "send 16383 = refused 36"
+  echo "accept 117fff000000070000000601000001ff0000 = freed 0 lost 512 final 0"
+  printf '%s\n' "send 32768 = refused 10" "send 32767 = refused 35" "send 16384 = refused 36" "take = taken 0 0" "send 16384 = sent 512"
+} >"$work/calls"
+play "a full ledger"
 
 # A bearer that rests a hundred times: before each pair of packets over X2 a part of the PDCP circle goes over the master alone, from none of
 # it to nearly twice around. The first of the pair is lost, reported, and left with the master. What bears H is refused, and goes there too
