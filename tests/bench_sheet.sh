@@ -1,6 +1,6 @@
 #!/usr/bin/env bash
 # Document 01's bench sheet as requests One and Three left it, played call by call on the proved engines by replay: the cases of
-# tests/calls/, a bearer that rested and what docs/LIMITS.md says among them, 163 listed runs, half a circle of packets, a burst of all, and a
+# tests/calls/, a bearer that rested and what docs/LIMITS.md says among them, 163 listed runs, half a circle of packets, a full ledger, and a
 # hundred rests.
 set -u
 cd "$(dirname "$0")/.."
@@ -80,15 +80,20 @@ awk 'BEGIN {
 }' >"$work/calls"
 play "half a circle of packets"
 
-# A burst drops all that the master holds: nothing arrives behind it, so nothing is given up, no status frees anything, and sends get 36
-awk 'BEGIN {
-  print "open 12 0 0 = ok"
-  for (i = 0; i < 512; i++) printf "send %d = sent %d\n", i, i
-  print "send 512 = refused 36\nexpire = refused 17"
-  print "status 7 6 0 14 = frame 100fff0000000700000006000000\naccept 100fff0000000700000006000000 = freed 0 lost 0 final 0"
-  print "send 512 = refused 36\ntake = refused 38"
-}' >"$work/calls"
-play "a burst of all"
+# A full ledger: the number is judged first, then the PDCP order, then the room. Where a burst dropped all of it nothing arrives behind it: nothing is
+# given up, and no status frees anything (docs/LIMITS.md). With all of it lost and nothing waiting the order is the same
+{
+  echo "open 15 0 0 = ok"
+  for p in $(seq 0 511); do echo "send $p = sent $p"; done
+  printf '%s\n' "send 32768 = refused 10" "send 511 = refused 35" "send 16384 = refused 35" "send 32767 = refused 35" "send 16383 = refused 36"
+  echo "expire = refused 17"
+  echo "status 7 6 0 14 = frame 107fff0000000700000006000000"
+  echo "accept 107fff0000000700000006000000 = freed 0 lost 0 final 0"
+  echo "send 16383 = refused 36"
+  echo "accept 117fff000000070000000601000001ff0000 = freed 0 lost 512 final 0"
+  printf '%s\n' "send 32768 = refused 10" "send 32767 = refused 35" "send 16384 = refused 36" "take = taken 0 0" "send 16384 = sent 512"
+} >"$work/calls"
+play "a full ledger"
 
 # A bearer that rests a hundred times: before each pair of packets over X2 a part of the PDCP circle goes over the master alone, from none of
 # it to nearly twice around. The first of the pair is lost, reported, and left with the master. What bears H is refused, and goes there too

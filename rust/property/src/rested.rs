@@ -40,7 +40,7 @@ fn send(bearer: &mut Bearer, pdcp: u32, wanted: Answer<()>) -> Verdict {
     ))
 }
 
-fn nothing_waits(bearer: &mut Bearer) -> Verdict {
+fn nothing_waits(bearer: &Bearer) -> Verdict {
     let mut entries = bearer.pair.ledger.entries();
     match entries.find(|entry| entry.fate == Fate::Waiting) {
         None => Ok(()),
@@ -107,6 +107,9 @@ fn rest(bearer: &mut Bearer, pdus: u32) -> Verdict {
     limits(bearer, next)?;
     bearer.make(&Step::Take(3))?;
     limits(bearer, next)?;
+    let second = bearer.pdcp_after_last(1);
+    send(bearer, second, Ok(()))?;
+    send(bearer, second, Err(PdcpOrder))?;
     bearer.drain()
 }
 

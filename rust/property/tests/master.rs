@@ -8,11 +8,10 @@ use property::suite::holds_on;
 use proptest::collection::vec;
 use proptest::prelude::*;
 use proptest::sample::{Index, select};
-use soak::order::{Before, Edge, Sends};
+use soak::order::{Before, Edge, Sends, last_left};
 use std::cell::RefCell;
-use x2u::circle::Circle;
 use x2u::frame::{self, Frame, LONGEST, Range, Report};
-use x2u::ledger::{Entry, Fate};
+use x2u::ledger::Fate;
 use x2u::{Bearer, Form, Ledger, Refusal};
 
 /// Where a status gets its highest from.
@@ -110,7 +109,7 @@ fn accepts() -> impl Strategy<Value = Call> {
 
 struct Test {
     opening: Opening,
-    circle: Circle,
+    bearer: Bearer,
     ledger: Ledger,
     model: Master,
     sends: Sends,
@@ -121,7 +120,7 @@ impl Test {
         let (first, first_pdcp) = (opening.first as u32, opening.first_pdcp as u32);
         Self {
             opening,
-            circle: Bearer::judged(opening.bits, 0, 0).unwrap().pdcp,
+            bearer: Bearer::judged(opening.bits, first, first_pdcp).unwrap(),
             ledger: Ledger::open(opening.bits, first, first_pdcp).unwrap(),
             model: Master::open(opening),
             sends: Sends::default(),
@@ -132,10 +131,12 @@ impl Test {
         match call {
             Call::Send { skip, count } => {
                 for _ in 0..*count {
-                    self.send(self.circle.step(self.ledger.last_sent(), skip + 1))?;
+                    self.send(self.bearer.pdcp.step(self.ledger.last_sent(), skip + 1))?;
                 }
             }
-            Call::SendAt(edge, off) => self.send(edge.near(self.circle, &self.ledger, *off))?,
+            Call::SendAt(edge, off) => {
+                self.send(edge.near(self.bearer.pdcp, &self.ledger, *off))?
+            }
             Call::SendAny(pdcp) => self.send(*pdcp)?,
             Call::Accept { .. } => {
                 let octets = self.status(call);
@@ -153,7 +154,7 @@ impl Test {
     }
 
     fn send(&mut self, pdcp: u32) -> Result<(), TestCaseError> {
-        let before = Before::send(self.circle, &self.ledger, pdcp);
+        let before = Before::send(self.bearer.pdcp, &self.ledger, pdcp);
         let answer = self.ledger.send(pdcp);
         prop_assert_eq!(answer, self.model.send(pdcp));
         self.sends.count(before, answer);
@@ -218,7 +219,7 @@ impl Test {
         list.truncate(*ranges);
         let highest = match highest {
             Highest::OfEntry(index) if !entries.is_empty() => index.get(&entries).pdcp,
-            Highest::OfLastLeft => self.last_left(&entries, &list),
+            Highest::OfLastLeft => last_left(self.bearer.numbers(), &self.ledger, &list),
             Highest::Any(pdcp) => *pdcp,
             _ => self.ledger.highest(),
         };
@@ -238,20 +239,6 @@ impl Test {
         let mut buffer = [0; LONGEST];
         let length = frame::write_status(form, &report, &list, &mut buffer).unwrap();
         buffer[..length].to_vec()
-    }
-
-    /// The PDCP number of the last entry that waits and isn't in the list, H if
-    /// there is none.
-    fn last_left(&self, entries: &[Entry], list: &[Range]) -> u32 {
-        let circle = Bearer::judged(self.opening.bits, 0, 0).unwrap().numbers();
-        let named = |entry: &Entry| {
-            let forward = |range: &Range, to| circle.forward(range.start, to);
-            list.iter()
-                .any(|range| forward(range, entry.number) <= forward(range, range.end))
-        };
-        let left = |entry: &&Entry| entry.fate == Fate::Waiting && !named(entry);
-        let last = entries.iter().rfind(left);
-        last.map_or(self.ledger.highest(), |entry| entry.pdcp)
     }
 
     fn spoil(&self, list: &mut Vec<Range>, spoil: &Spoil) {

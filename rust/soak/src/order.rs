@@ -1,7 +1,9 @@
-//! The PDCP order of sends: where its limits lie, and which of them sends met.
+//! The PDCP order of sends: where its limits lie, how nothing comes to wait, and
+//! what sends met.
 
 use std::fmt::{self, Display, Formatter};
 use x2u::circle::Circle;
+use x2u::frame::Range;
 use x2u::ledger::{Entry, Fate};
 use x2u::{Answer, Ledger, Refusal};
 
@@ -61,6 +63,19 @@ impl Edge {
 
 fn waiting(ledger: &Ledger) -> impl Iterator<Item = &Entry> {
     ledger.entries().filter(|entry| entry.fate == Fate::Waiting)
+}
+
+/// The highest of a status with these ranges after which nothing waits: the PDCP
+/// number of the last entry that waits and isn't in them, or H if there is none.
+#[must_use]
+pub fn last_left(numbers: Circle, ledger: &Ledger, ranges: &[Range]) -> u32 {
+    let is_named = |entry: &Entry| {
+        let forward = |range: &Range, to| numbers.forward(range.start, to);
+        let within = |range: &Range| forward(range, entry.number) <= forward(range, range.end);
+        ranges.iter().any(within)
+    };
+    let last = waiting(ledger).filter(|entry| !is_named(entry)).last();
+    last.map_or(ledger.highest(), |entry| entry.pdcp)
 }
 
 /// What a send met.

@@ -1,6 +1,7 @@
 //! Frames, numbers and lines from somebody who means harm.
 
 use crate::frames;
+use crate::order::last_left;
 use crate::script::Script;
 use x2u::Form;
 use x2u::frame::{MOST_RANGES, Range, Report};
@@ -80,21 +81,17 @@ fn report(highest: u32, is_final: bool) -> Report {
     }
 }
 
-/// A status after which nothing waits: some entries are lost, the others freed.
-pub(super) fn settle_all(script: &mut Script) {
+/// A status that names some of what waits lost. All the rest is freed, or none.
+pub(super) fn losses(script: &mut Script, frees_rest: bool) {
     let entries: Vec<Entry> = script.ends.ledger.entries().copied().collect();
     let named = script.rng.pick(&[0, 10, 50, 100]);
     let ranges = waiting_ranges(script, &entries, named);
-    let circle = script.ends.bearer.numbers();
-    let is_named = |entry: &Entry| {
-        let within = |range: &Range| {
-            circle.forward(range.start, entry.number) <= circle.forward(range.start, range.end)
-        };
-        ranges.iter().any(within)
+    let ledger = &script.ends.ledger;
+    let highest = if frees_rest {
+        last_left(script.ends.bearer.numbers(), ledger, &ranges)
+    } else {
+        ledger.highest()
     };
-    let left = |entry: &&Entry| entry.fate == Fate::Waiting && !is_named(entry);
-    let last = entries.iter().rfind(left).map(|entry| entry.pdcp);
-    let highest = last.unwrap_or(script.ends.ledger.highest());
     let octets = frames::status(form_of(script), &report(highest, false), &ranges);
     script.accept(&octets);
 }

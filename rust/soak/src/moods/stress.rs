@@ -162,8 +162,12 @@ pub(super) fn rests(script: &mut Script) {
             script.send_next(0);
         }
         edges(script);
+        if script.rng.chance(40) {
+            hostile::losses(script, false);
+            edges(script);
+        }
         if script.rng.chance(80) {
-            hostile::settle_all(script);
+            hostile::losses(script, true);
         }
         if script.rng.chance(20) {
             script.take();

@@ -18,7 +18,7 @@ pub fn list(report: &Report<'_>) -> Vec<String> {
 
 /// True of every ramp.
 const ALWAYS: [&str; 6] = [
-    "A rest behind a packet that is dropped: it waits for ever, and each send is refused (35) from half a circle on.",
+    "A rest behind a packet that is dropped: it waits on, and from half a circle of PDCP numbers on sends are refused (35).",
     "More than one bearer at a time, a bearer opened again, a run of calls from several threads.",
     "A real clock, real timers, a real radio or handset: time, delays and confirms are simulated.",
     "The archive for C and its header: every call went to the program under test as a line of text.",
