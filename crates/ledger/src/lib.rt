@@ -152,9 +152,9 @@ fn not_sent(l: Ledger, refusal: u32) -> Sending
     }
 }
 
-// Send of a PDCP number: 9, 10, 35, 36, or the X2-U number given out. In order (35) is any number but the highest with none
-// waiting, and else any other that follows. The one entry looked at is read from `after`: the compiler reads it from `l` through
-// a copy of all entries.
+// Send of a PDCP number: 9, 10, 35, 36, or the X2-U number given out. 35 is for the highest, and with an entry waiting for a number
+// that doesn't follow the oldest such. That entry is read from `after`, since the compiler reads an entry of `l` through a copy of
+// all of them.
 pub fn send(l: Ledger, pdcp: u32) -> Sending
     ensures { λ r. ⌜ beside (sentAs (r .answer)) (ledgerIn (r .ledger)) ≡ «sendOf» (ledgerIn l) pdcp tt ⌝ }
 {
