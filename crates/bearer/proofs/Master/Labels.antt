@@ -48,6 +48,7 @@ module _ {A B : Type 0} (f : A → B) where
   follows-as l p [] = refl
   follows-as l p (e ∷ es) = refl
 
+  -- so the PDCP order is the same
   order-as : (l : Ledger A) (p : ℕ) → inOrder (relabelled l) p ≡ inOrder l p
   order-as l p =
       ap (λ (b : Bool). not (eqb p (l .highest)) and b)

@@ -71,10 +71,12 @@ abbrev pub oldestOf : List ℕ → ℕ
 oldestOf [] = 0
 oldestOf (x ∷ xs) = x
 
+-- it is one of them
 oldest-in : (xs : List ℕ) (i : ℕ) → In i xs → In (oldestOf xs) xs
 oldest-in [] i h = absurd (in-none h)
 oldest-in (x ∷ xs) i h = in-head x xs
 
+-- and none is older
 oldest-least : (xs : List ℕ) → Rising xs → (i : ℕ) → In i xs → oldestOf xs ≤ i
 oldest-least [] r i h = absurd (in-none h)
 oldest-least (x ∷ xs) r i h = rising-first x xs r i h
@@ -93,6 +95,7 @@ in-step {L} {first} {cut} {sent} {l} ok m = record {
     rises : Rising ws
     rises = waiting-rising (l .entries) (m .entries-are .rising)
 
+    -- at most half the PDCP numbers were sent from the oldest on
     within : (x : ℕ) → In x ws → x < oldestOf ws + modulusOf L
     within x h =
         let r = roomy L ok in
@@ -105,6 +108,7 @@ pub data Oldest (sent : List ℕ) : List (Entry ℕ) → List ℕ → Type 0 whe
   none-waits : Oldest sent [] []
   oldest-waits : (e : Entry ℕ) (es : List (Entry ℕ)) (is : List ℕ) → e .pdcp ≡ pdcpOf sent (e .label) → Oldest sent (e ∷ es) (e .label ∷ is)
 
+-- so it is in a sound ledger
 pub the-oldest : {L first cut : ℕ} {sent : List ℕ} {l : Ledger ℕ} → Master L first cut sent l → Oldest sent (drop (l .oldest) (l .entries)) (waitingOf (l .entries))
 the-oldest {sent = sent} {l} m =
     rw (m .oldest-is, ← oldest-there (l .entries))
@@ -120,6 +124,7 @@ the-oldest {sent = sent} {l} m =
 
 -- ---- send
 
+-- the packets of entries behind others
 packets-append : (a b : List (Entry ℕ)) → packets (a ++ b) ≡ packets a ++ packets b
 packets-append a b = map-append (λ (e : Entry ℕ). e .label) a b
 
