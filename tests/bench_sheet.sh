@@ -1,6 +1,7 @@
 #!/usr/bin/env bash
-# Document 01's bench sheet as request One left it, played call by call on the proved engines by replay: the cases of tests/calls/, 163
-# listed runs, and half a circle of packets.
+# Document 01's bench sheet as requests One and Three left it, played call by call on the proved engines by replay: the cases of
+# tests/calls/, a bearer that rested and what docs/LIMITS.md says among them, 163 listed runs, half a circle of packets, a full ledger, and a
+# hundred rests.
 set -u
 cd "$(dirname "$0")/.."
 passed=0
@@ -24,7 +25,7 @@ play() {
   : >"$work/calls"
 }
 
-# the cases of a file, each behind its heading
+# the cases of each file, each behind its heading
 name=
 : >"$work/calls"
 while IFS= read -r line; do
@@ -33,7 +34,7 @@ while IFS= read -r line; do
   '#'*) name=${line#\# } ;;
   *) printf '%s\n' "$line" >>"$work/calls" ;;
   esac
-done < <(cat tests/calls/bench-sheet.txt && echo)
+done < <(for file in tests/calls/*.txt; do cat "$file" && echo; done)
 
 # 163 listed runs: every second packet is missing, and all that came is confirmed. A status carries 162 and holds the highest
 # back before the run that it leaves out; with Final it is refused; the master frees what it may; the next status has the rest
@@ -59,7 +60,8 @@ play "163 listed runs"
 
 # Half a circle of packets, in batches of 256: each is sent, arrives, is confirmed, reported and freed. Then 32768 were sent, and base is the
 # next. A copy of packet 0 has 32767 sent after it, fewer than M/2, so demand 3 allows it: it lies opposite base, and one of packet 1 behind
-# it. After one more send demand 3 allows no copy of packet 0
+# it. After one more send demand 3 allows no copy of packet 0; one that comes all the same is taken for a packet to come, numbers that were never
+# sent are given up, and the master refuses the status that says so (docs/LIMITS.md)
 awk 'BEGIN {
   print "open 15 0 0 = ok"
   for (p = 0; p < 32768; p += 256) {
@@ -71,9 +73,52 @@ awk 'BEGIN {
   print "ledger = ledger 32768 32767 32767 0 7 6 none"
   print "arrive 0 0 = refused 18"
   print "arrive 1 1 = refused 11"
-  print "send 0 = sent 32768"
+  print "send 0 = sent 32768\narrive 32768 0 = lost 0\nconfirm 32768 = ok"
+  print "status 7 6 0 14 = frame 1000000000000700000006000000\naccept 1000000000000700000006000000 = freed 1 lost 0 final 0"
+  print "arrive 0 0 = lost 32512"
+  print "status 7 6 0 18 = frame 1100000000000700000006018001ff000000\naccept 1100000000000700000006018001ff000000 = refused 33"
 }' >"$work/calls"
 play "half a circle of packets"
+
+# A full ledger: the number is judged first, then the PDCP order, then the room. Where a burst dropped all of it nothing arrives behind it: nothing is
+# given up, and no status frees anything (docs/LIMITS.md). With all of it lost and nothing waiting the order is the same
+{
+  echo "open 15 0 0 = ok"
+  for p in $(seq 0 511); do echo "send $p = sent $p"; done
+  printf '%s\n' "send 32768 = refused 10" "send 511 = refused 35" "send 16384 = refused 35" "send 32767 = refused 35" "send 16383 = refused 36"
+  echo "expire = refused 17"
+  echo "status 7 6 0 14 = frame 107fff0000000700000006000000"
+  echo "accept 107fff0000000700000006000000 = freed 0 lost 0 final 0"
+  echo "send 16383 = refused 36"
+  echo "accept 117fff000000070000000601000001ff0000 = freed 0 lost 512 final 0"
+  printf '%s\n' "send 32768 = refused 10" "send 32767 = refused 35" "send 16384 = refused 36" "take = taken 0 0" "send 16384 = sent 512"
+} >"$work/calls"
+play "a full ledger"
+
+# A bearer that rests a hundred times: before each pair of packets over X2 a part of the PDCP circle goes over the master alone, from none of
+# it to nearly twice around. The first of the pair is lost, reported, and left with the master. What bears H is refused, and goes there too
+for bits in 12 15 18; do
+  awk -v bits=$bits 'BEGIN {
+    size = 2 ^ bits; m = bits == 18 ? 2 ^ 24 : 2 ^ 16
+    frame = bits == 18 ? "21%06x000000070000000601%06x%06x000000" : "11%04x000000070000000601%04x%04x0000"
+    n = m - 41; highest = size - 1; p = 0; lost = ""
+    printf "open %d %d 0 = ok\n", bits, n
+    for (i = 0; i < 100; i++) {
+      if (p == highest) { printf "send %d = refused 35\n", p; p = (p + 1) % size }
+      printf "send %d = sent %d\nsend %d = refused 35\nsend %d = refused 35\n", p, n, p, (p + size / 2) % size
+      lost = lost n ":" p ":l"; first = n; n = (n + 1) % m; p = (p + 1) % size
+      if (p == highest) { printf "send %d = refused 35\n", p; p = (p + 1) % size }
+      printf "send %d = sent %d\narrive %d %d = lost 0\nexpire = lost 1\nconfirm %d = ok\n", p, n, n, p, n
+      printf "status 7 6 0 1018 = frame " frame "\naccept " frame " = freed 1 lost 1 final 0\n", p, first, first, p, first, first
+      highest = p; n = (n + 1) % m
+      printf "ledger = ledger %d %d %d 0 7 6 %s\n", n, highest, highest, lost
+      lost = lost ","
+      rest = i % 10 == 4 ? size - 2 : i % 10 == 9 ? size - 1 : int(i * size / 51)
+      p = (p + 1 + rest) % size
+    }
+  }' >"$work/calls"
+  play "a hundred rests, L $bits"
+done
 
 echo "$passed passed, $failed failed"
 [ "$failed" -eq 0 ]

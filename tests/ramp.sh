@@ -1,6 +1,6 @@
 #!/usr/bin/env bash
-# Twenty seconds of the ramp for each L, over both rollovers, and what its report says; a lie in the middle of one, and programs that
-# hang, end early or can't be started, which must fail it; files that are kept; and what is refused before anything is built.
+# Twenty seconds of the ramp for each L, over both rollovers and some rests, and what its report says; a lie in the middle of one, and
+# programs that hang, end early or can't be started, which must fail it; files that are kept; and what is refused before anything is built.
 set -u
 cd "$(dirname "$0")/.."
 passed=0
@@ -37,6 +37,10 @@ for bits in 12 15 18; do
   holds "L $bits, its report" grep -q '^Result: PASSED at 2,000 packets a second, as asked for' "$out/$bits.txt"
   holds "L $bits, both circles rolled over" [ "$(sed -n '/^Rollovers met/,/^$/s/ numbers  *[1-9].*//p' "$out/$bits.txt" | wc -l)" -eq 2 ]
   holds "L $bits, its chart" grep -q '>PASSED</text>' "$out/$bits.svg"
+  for rest in 'half of it' 'a whole turn'; do
+    holds "L $bits, a rest of more than $rest" grep -qE "^  of more than $rest +[1-9]" "$out/$bits.txt"
+  done
+  holds "L $bits, sends that waited for the PDCP order" grep -qE '^  master, send +35 .* [0-9,]+$' "$out/$bits.txt"
   # of the long form no half circle is sent in this time
   [ $bits = 18 ] || holds "L $bits, a copy opposite base" grep -qE '^  secondary, arrive +18 .* [0-9,]+$' "$out/$bits.txt"
 done
@@ -55,7 +59,7 @@ ln -s "$PWD" "$out/link"
 rm "$out/link"
 holds "the shipped build is known through a link" grep -q '^  build  *the shipped one' "$out/link.txt"
 holds "the commit is known through a link" grep -q "^Commit  *$commit" "$out/link.txt"
-for sum in offered 'that had to wait' 'declared lost' dropped; do
+for sum in offered 'that had to wait' 'declared lost' dropped rests 'PDCP numbers used'; do
   holds "the parts of what was $sum add up" [ "$(grep -c "^  together, all $sum " "$out/12.txt")" -eq 1 ]
 done
 declared() { sed -n "s/^  $1  *\([0-9,]*\)$/\1/p" "$out/12.txt" | head -n 1; }

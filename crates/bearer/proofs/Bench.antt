@@ -25,6 +25,14 @@ pub data Call : Type 0 where
   -- a status with desired size, minimum size and Final, and what is read in the frame that it built
   reports : ℕ → ℕ → Bool → Reading → Call
 
+-- a call on a master, and what it answers
+pub data Turn : Type 0 where
+  -- a PDCP number is sent
+  sends : ℕ → Outcome ℕ → Turn
+  -- octets are accepted
+  accepts : List ℕ → Outcome G.Accepted → Turn
+  takes : Outcome G.Taken → Turn
+
 -- a case
 pub data Case : Type 0 where
   -- a data frame of a form is written: its octets, or the refusal
@@ -37,6 +45,8 @@ pub data Case : Type 0 where
   secondary : Outcome K.Keeper → List Call → ℕ → Case
   -- a PDCP number is sent by a master: the answer
   master : Outcome (G.Ledger Unit) → ℕ → Outcome ℕ → Case
+  -- calls on a master, one after another: their answers
+  turns : Outcome (G.Ledger Unit) → List Turn → Case
   -- both ends are opened with L, a first number and a first PDCP number: the refusal
   not-opened : ℕ → ℕ → ℕ → ℕ → Case
   -- octets are not accepted by a master: the refusal
@@ -74,6 +84,13 @@ CallsAnswered k (expires a ∷ cs) base = (K.expire k .answer ≡ a) × CallsAns
 CallsAnswered k (confirms n a ∷ cs) base = (K.confirm k n .answer ≡ a) × CallsAnswered (K.confirm k n .state) cs base
 CallsAnswered k (reports d m final r ∷ cs) base = (readReport (K.status k d m final bench) ≡ r) × CallsAnswered (K.status k d m final bench .state) cs base
 
+-- calls on a master are answered so
+abbrev pub TurnsAnswered : G.Ledger Unit → List Turn → Type 0
+TurnsAnswered l [] = Unit
+TurnsAnswered l (sends p a ∷ ts) = (G.send l p tt .answer ≡ a) × TurnsAnswered (G.send l p tt .state) ts
+TurnsAnswered l (accepts o a ∷ ts) = (G.accept l o .answer ≡ a) × TurnsAnswered (G.accept l o .state) ts
+TurnsAnswered l (takes a ∷ ts) = (G.takeOldest l .answer ≡ a) × TurnsAnswered (G.takeOldest l .state) ts
+
 -- what is said of an end, which was opened
 abbrev pub Of : {A : Type 0} → Outcome A → (A → Type 0) → Type 0
 Of (done a) P = P a
@@ -86,6 +103,7 @@ Holds (status-frame s frame) = writeStatus s bench ≡ leaves frame
 Holds (octets-read s r) = readFrame s ≡ r
 Holds (secondary k cs base) = Of k (λ o. CallsAnswered o cs base)
 Holds (master l p a) = Of l (λ o. G.send o p tt .answer ≡ a)
+Holds (turns l ts) = Of l (λ o. TurnsAnswered o ts)
 Holds (not-opened L first f n) = (K.openKeeper L first f ≡ refused n) × (G.openLedger {A = Unit} L first f ≡ refused n)
 Holds (not-accepted l s n) = Of l (λ o. G.accept o s .answer ≡ refused n)
 Holds (not-taken l n) = Of l (λ o. G.takeOldest o .answer ≡ refused n)
@@ -141,8 +159,8 @@ abbrev pub recording : ℕ → K.Keeper
 recording n = K.freshKeeper 12 1000 1 with-records records n
 
 -- a master that holds so many entries
-abbrev pub holding : ℕ → G.Ledger Unit
-holding n = G.freshLedger {A = Unit} 12 1000 1 with-sent 999 with-entries map (λ (i : ℕ). G.newEntry i i tt) (below n)
+abbrev pub filled : ℕ → G.Ledger Unit
+filled n = G.freshLedger {A = Unit} 12 1000 1 with-sent 999 with-entries map (λ (i : ℕ). G.newEntry i i tt) (below n)
 
 -- two ranges of the short form, and a frame that bears them
 abbrev pub two-short : List Range
@@ -169,9 +187,23 @@ shut = K.freshKeeper 12 1000 1 with-closed true
 abbrev pub closed : G.Ledger Unit
 closed = G.fresh 12 0 0 true
 
--- both sizes 0, and the range from 7 to 7, in a frame
-abbrev pub one-range : List ℕ
-one-range = replicate 8 0 ++ (0x01 ∷ 0x00 ∷ 0x07 ∷ 0x00 ∷ 0x07 ∷ 0x00 ∷ 0x00 ∷ [])
+-- both sizes 0, and the range of one number, in a frame
+abbrev pub one-range : ℕ → List ℕ
+one-range n = replicate 8 0 ++ (0x01 ∷ 0x00 ∷ n ∷ 0x00 ∷ n ∷ 0x00 ∷ 0x00 ∷ [])
+
+-- a frame of the short form that names a highest and no range, and one that names a number and the highest 4095
+abbrev pub highest-only : ℕ → List ℕ
+highest-only h = 0x10 ∷ 0x00 ∷ h ∷ replicate 11 0
+
+abbrev pub lost-only : ℕ → List ℕ
+lost-only n = 0x11 ∷ 0x0F ∷ 0xFF ∷ one-range n
+
+-- a status by which so many were freed and so many became lost, and what was taken
+abbrev pub counts : ℕ → ℕ → Outcome G.Accepted
+counts freed lost = done (record { freed = freed; lost = lost; final = false })
+
+abbrev pub taken : ℕ → ℕ → Outcome G.Taken
+taken n p = done (record { number = n; pdcp = p })
 
 -- ---- the table
 
@@ -193,7 +225,7 @@ sheet =
     ∷ secondary (K.openKeeper 12 65534 4095) (over-rollover []) 1
     ∷ secondary (K.openKeeper 12 65534 4095) (over-rollover (confirms 0 (done tt) ∷ reports 65536 4096 false (status-of (telling false 4094 65536 4096 ((65535 to 65535) ∷ []))) ∷ [])) 1
     ∷ master (G.openLedger 12 0 0) 2046 (done 0)
-    ∷ master (G.openLedger 12 0 0) 2047 (refused 35)
+    ∷ master (G.openLedger 12 0 0) 2047 (done 0)
     ∷ []
 
 -- what can be written: the X2-U numbers, highest PDCP numbers and counts of ranges
@@ -242,14 +274,34 @@ circles =
     ∷ secondary (K.openKeeper 18 0 0) (arrives 8388608 0 (refused 18) ∷ arrives 8388609 0 (refused 11) ∷ arrives 0 262144 (refused 10) ∷ []) 0
     ∷ secondary (K.openKeeper 12 0 0) (arrives 0 0 (done 0) ∷ arrives 32767 0 (done 32511) ∷ expires (done 255) ∷ confirms 0 (done tt) ∷ arrives 0 0 (refused 18) ∷ arrives 1 0 (refused 11) ∷ arrives 32768 0 (refused 13) ∷ []) 32768
     ∷ secondary (K.openKeeper 12 0 0) (arrives 32767 0 (done 32512) ∷ expires (done 255) ∷ arrives 0 0 (refused 18) ∷ arrives 1 0 (refused 11) ∷ arrives 32768 0 (refused 13) ∷ []) 32768
-    ∷ master (G.openLedger 15 0 0) 16382 (done 0)
-    ∷ master (G.openLedger 15 0 0) 16383 (refused 35)
-    ∷ master (G.openLedger 18 0 0) 131070 (done 0)
-    ∷ master (G.openLedger 18 0 0) 131071 (refused 35)
+    ∷ turns (G.openLedger 15 0 0) (sends 32767 (refused 35) ∷ sends 0 (done 0) ∷ sends 16384 (refused 35) ∷ sends 16383 (done 1) ∷ [])
+    ∷ turns (G.openLedger 18 0 0) (sends 262143 (refused 35) ∷ sends 0 (done 0) ∷ sends 131072 (refused 35) ∷ sends 131071 (done 1) ∷ [])
     ∷ not-opened 15 65536 0 10
     ∷ not-opened 15 0 32768 10
     ∷ not-opened 18 16777216 0 10
     ∷ not-opened 18 0 262144 10
+    ∷ []
+
+-- the PDCP order of sends (request Three)
+abbrev pub rested : List Case
+rested =
+    -- with none waiting any PDCP number but H; with one waiting past the last sent, and less than 2^(L-1) past the oldest
+    turns (G.openLedger 12 0 0) (sends 4095 (refused 35) ∷ sends 5 (done 0) ∷ sends 5 (refused 35) ∷ sends 4 (refused 35) ∷ sends 2053 (refused 35) ∷ sends 2052 (done 1) ∷ [])
+    -- all was freed, and then went over the master alone: only H is refused, and a PDU may be sent again; with entries waiting H is refused too
+    ∷ turns (G.openLedger 12 0 0) (sends 7 (done 0) ∷ sends 9 (done 1) ∷ accepts (highest-only 9) (counts 2 0) ∷ sends 9 (refused 35) ∷ sends 7 (done 2) ∷ [])
+    ∷ turns (G.openLedger 12 0 0) (sends 9 (done 0) ∷ accepts (highest-only 9) (counts 1 0) ∷ sends 2057 (done 1) ∷ sends 8 (done 2) ∷ [])
+    ∷ turns (G.openLedger 12 0 0) (sends 9 (done 0) ∷ accepts (highest-only 9) (counts 1 0) ∷ sends 7 (done 1) ∷ sends 9 (refused 35) ∷ sends 8 (done 2) ∷ sends 10 (done 3) ∷ [])
+    -- all became lost: so too, and the last sent isn't looked at, held or taken
+    ∷ turns (G.openLedger 12 0 0) (sends 5 (done 0) ∷ accepts (lost-only 0) (counts 0 1) ∷ sends 5 (done 1) ∷ takes (taken 0 5) ∷ sends 5 (refused 35) ∷ sends 2052 (done 2) ∷ [])
+    ∷ turns (G.openLedger 12 0 0) (sends 50 (done 0) ∷ accepts (lost-only 0) (counts 0 1) ∷ sends 40 (done 1) ∷ sends 50 (done 2) ∷ [])
+    -- a lost entry in front doesn't count, taken or not, nor does one behind
+    ∷ turns (G.openLedger 12 0 0) (sends 0 (done 0) ∷ sends 1 (done 1) ∷ sends 2 (done 2) ∷ accepts (lost-only 0) (counts 0 1) ∷ sends 2049 (refused 35) ∷ sends 2047 (done 3) ∷ sends 2048 (done 4) ∷ [])
+    ∷ turns (G.openLedger 12 0 0) (sends 0 (done 0) ∷ sends 1 (done 1) ∷ sends 2 (done 2) ∷ accepts (lost-only 0) (counts 0 1) ∷ takes (taken 0 0) ∷ sends 2049 (refused 35) ∷ sends 2048 (done 3) ∷ [])
+    ∷ turns (G.openLedger 12 0 0) (sends 0 (done 0) ∷ sends 1 (done 1) ∷ accepts (lost-only 1) (counts 0 1) ∷ sends 2048 (refused 35) ∷ sends 2047 (done 2) ∷ [])
+    -- nor one that comes to stand in front when others are freed
+    ∷ turns (G.openLedger 12 0 0) (sends 0 (done 0) ∷ sends 1 (done 1) ∷ sends 2 (done 2) ∷ accepts (lost-only 1) (counts 0 1) ∷ accepts (highest-only 0) (counts 1 0) ∷ sends 2050 (refused 35) ∷ sends 2049 (done 3) ∷ [])
+    -- with entries waiting the last sent counts, lost or taken
+    ∷ turns (G.openLedger 12 0 0) (sends 0 (done 0) ∷ sends 3 (done 1) ∷ accepts (lost-only 1) (counts 0 1) ∷ sends 3 (refused 35) ∷ takes (taken 1 3) ∷ sends 3 (refused 35) ∷ sends 4 (done 2) ∷ [])
     ∷ []
 
 -- a master holds the two sizes in their order; the stores of runs, of records and of entries; Final where 162 runs are listed, and 163
@@ -260,8 +312,8 @@ stores =
     ∷ secondary (done (listing 256)) (arrives 1256 0 (refused 14) ∷ []) 1000
     ∷ secondary (done (recording 511)) (arrives 1000 0 (done 0) ∷ []) 1001
     ∷ secondary (done (recording 512)) (arrives 1000 0 (refused 15) ∷ []) 1000
-    ∷ master (done (holding 511)) 1000 (done 1000)
-    ∷ master (done (holding 512)) 1000 (refused 36)
+    ∷ master (done (filled 511)) 1000 (done 1000)
+    ∷ master (done (filled 512)) 1000 (refused 36)
     ∷ secondary (done (listing 162)) (reports 0 0 true (status-of (record { long = false; final = true; highest = 0; desired = 0; minimum = 0; ranges = runs 162 })) ∷ []) 1000
     ∷ secondary (done (listing 163)) (reports 0 0 true (refuse 22) ∷ []) 1000
     ∷ []
@@ -310,21 +362,21 @@ master-orders =
     -- send: 9 before 10, 10 before 35, 35 before 36
     master (done closed) 4096 (refused 9)
     ∷ master (G.openLedger 12 0 0) 8191 (refused 10)
-    ∷ master (done (holding 512)) 999 (refused 35)
+    ∷ master (done (filled 512)) 999 (refused 35)
     -- accept: 9 before 1, 6 before 31, 31 before 32, 32 before 33, 33 before 34, 34
     ∷ not-accepted (done closed) [] 9
     ∷ not-accepted (G.openLedger 12 0 0) (0x21 ∷ replicate 11 0 ++ (1 ∷ 0 ∷ [])) 6
     ∷ not-accepted (G.openLedger 12 0 0) (0x20 ∷ 0x00 ∷ 0x10 ∷ replicate 11 0) 31
-    ∷ not-accepted (G.openLedger 12 0 0) (0x11 ∷ 0x10 ∷ 0x00 ∷ one-range) 32
-    ∷ not-accepted (G.openLedger 12 0 0) (0x11 ∷ 0x00 ∷ 0x09 ∷ one-range) 33
+    ∷ not-accepted (G.openLedger 12 0 0) (0x11 ∷ 0x10 ∷ 0x00 ∷ one-range 7) 32
+    ∷ not-accepted (G.openLedger 12 0 0) (0x11 ∷ 0x00 ∷ 0x09 ∷ one-range 7) 33
     ∷ not-accepted (G.openLedger 12 0 0) (0x10 ∷ 0x00 ∷ 0x09 ∷ replicate 11 0) 34
     -- take: 38
-    ∷ not-taken (done (holding 512)) 38
+    ∷ not-taken (done (filled 512)) 38
     ∷ []
 
 -- all of them, part by part
 abbrev pub cases : List (List Case)
-cases = sheet ∷ written ∷ laid ∷ are-read ∷ circles ∷ stores ∷ frame-orders ∷ secondary-orders ∷ master-orders ∷ []
+cases = sheet ∷ written ∷ laid ∷ are-read ∷ circles ∷ rested ∷ stores ∷ frame-orders ∷ secondary-orders ∷ master-orders ∷ []
 
 -- ---- each case holds
 
@@ -341,7 +393,10 @@ are-read-hold : AllHold are-read
 are-read-hold = (refl, (refl, (refl, (refl, (refl, (refl, (refl, (refl, (refl, tt)))))))))
 
 circles-hold : AllHold circles
-circles-hold = ((refl, refl), ((refl, (refl, (refl, refl))), ((refl, refl), ((refl, (refl, (refl, refl))), ((refl, (refl, (refl, (refl, (refl, (refl, (refl, refl))))))), ((refl, (refl, (refl, (refl, (refl, refl))))), (refl, (refl, (refl, (refl, ((refl, refl), ((refl, refl), ((refl, refl), ((refl, refl), tt))))))))))))))
+circles-hold = ((refl, refl), ((refl, (refl, (refl, refl))), ((refl, refl), ((refl, (refl, (refl, refl))), ((refl, (refl, (refl, (refl, (refl, (refl, (refl, refl))))))), ((refl, (refl, (refl, (refl, (refl, refl))))), ((refl, (refl, (refl, (refl, tt)))), ((refl, (refl, (refl, (refl, tt)))), ((refl, refl), ((refl, refl), ((refl, refl), ((refl, refl), tt))))))))))))
+
+rested-hold : AllHold rested
+rested-hold = ((refl, (refl, (refl, (refl, (refl, (refl, tt)))))), ((refl, (refl, (refl, (refl, (refl, tt))))), ((refl, (refl, (refl, (refl, tt)))), ((refl, (refl, (refl, (refl, (refl, (refl, tt)))))), ((refl, (refl, (refl, (refl, (refl, (refl, tt)))))), ((refl, (refl, (refl, (refl, tt)))), ((refl, (refl, (refl, (refl, (refl, (refl, (refl, tt))))))), ((refl, (refl, (refl, (refl, (refl, (refl, (refl, tt))))))), ((refl, (refl, (refl, (refl, (refl, tt))))), ((refl, (refl, (refl, (refl, (refl, (refl, (refl, tt))))))), ((refl, (refl, (refl, (refl, (refl, (refl, (refl, tt))))))), tt)))))))))))
 
 stores-hold : AllHold stores
 stores-hold = ((refl, refl), ((refl, refl), ((refl, refl), ((refl, refl), ((refl, refl), (refl, (refl, ((refl, refl), ((refl, refl), tt)))))))))
@@ -357,4 +412,4 @@ master-orders-hold = (refl, (refl, (refl, (refl, (refl, (refl, (refl, (refl, (re
 
 -- every case holds
 pub all-hold : PartsHold cases
-all-hold = (sheet-hold, (written-hold, (laid-hold, (are-read-hold, (circles-hold, (stores-hold, (frame-orders-hold, (secondary-orders-hold, (master-orders-hold, tt)))))))))
+all-hold = (sheet-hold, (written-hold, (laid-hold, (are-read-hold, (circles-hold, (rested-hold, (stores-hold, (frame-orders-hold, (secondary-orders-hold, (master-orders-hold, tt))))))))))

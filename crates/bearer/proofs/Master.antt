@@ -3,6 +3,7 @@ pub mod Labels
 pub mod Marks
 pub mod Pdcps
 pub mod Frees
+pub mod Oldest
 pub mod Sound
 pub mod Takes
 pub mod Turned

@@ -1,11 +1,11 @@
 -- The master's machine: what each call answers and leaves, in every state (document 01, "The master's rule" and "Refusal
--- numbers"). Every definition is total. An entry bears a label of any type, which no definition looks at: the engine's
--- entries bear none (Unit), and demand 3 writes the packet's own name on it.
+-- numbers", with rule 35 as request Three of document 02 mends it). Every definition is total. An entry bears a label of any type, which no
+-- definition looks at: the engine's entries bear none (Unit), and demand 3 writes the packet's own name on it.
 -- Assumes nothing.
 use mathlib.Core.Bool.{Bool, true, false, not}
 use mathlib.Core.List.{List, [], _∷_, _++_}
 use mathlib.Core.Option.{Option, none, some}
-use Prim.Native.Nat.{ℕ, suc, _+_, _/_, _%_}
+use Prim.Native.Nat.{ℕ, suc, _+_, _-_, _/_, _%_}
 use lib.Dec.{ltb, leb, eqb}
 use lib.ListN.{length, take, drop}
 use Rattle.basics.specs.Basics.{if_then_else_, _and_, _or_, alike, Outcome, done, refused}
@@ -27,7 +27,8 @@ pub record Entry (A : Type 0) : Type 0 where
   pub label : A
 
 -- the master's end: L, the next X2-U number, the highest last accepted (H), the last PDCP number sent, whether it is closed, both
--- sizes of the last status, and the entries in sending order
+-- sizes of the last status, where the oldest waiting entry stands (behind so many others; behind all where none waits), and the entries in
+-- sending order
 pub record Ledger (A : Type 0) : Type 0 where
   pub bits : ℕ
   pub next : ℕ
@@ -36,6 +37,7 @@ pub record Ledger (A : Type 0) : Type 0 where
   pub closed : Bool
   pub desired : ℕ
   pub minimum : ℕ
+  pub oldest : ℕ
   pub entries : List (Entry A)
 
 -- an end with no entries: the last PDCP number sent is H
@@ -48,12 +50,13 @@ fresh L next highest closed = record {
   closed = closed;
   desired = 0;
   minimum = 0;
+  oldest = 0;
   entries = [];
 }
 
 -- a ledger whose parts that calls change are put anew, under labels of any type; beside `fresh`, the one place that says every field
-abbrev pub changed : {A B : Type 0} → Ledger A → ℕ → ℕ → ℕ → Bool → ℕ → ℕ → List (Entry B) → Ledger B
-changed l next highest sent closed desired minimum entries = record {
+abbrev pub changed : {A B : Type 0} → Ledger A → ℕ → ℕ → ℕ → Bool → ℕ → ℕ → ℕ → List (Entry B) → Ledger B
+changed l next highest sent closed desired minimum oldest entries = record {
   bits = l .bits;
   next = next;
   highest = highest;
@@ -61,38 +64,44 @@ changed l next highest sent closed desired minimum entries = record {
   closed = closed;
   desired = desired;
   minimum = minimum;
+  oldest = oldest;
   entries = entries;
 }
 
 -- ... with another next number
 infixl 20 _with-next_
 abbrev pub _with-next_ : {A : Type 0} → Ledger A → ℕ → Ledger A
-_with-next_ l next = changed l next (l .highest) (l .sent) (l .closed) (l .desired) (l .minimum) (l .entries)
+_with-next_ l next = changed l next (l .highest) (l .sent) (l .closed) (l .desired) (l .minimum) (l .oldest) (l .entries)
 
 -- ... with another highest last accepted
 infixl 20 _with-highest_
 abbrev pub _with-highest_ : {A : Type 0} → Ledger A → ℕ → Ledger A
-_with-highest_ l highest = changed l (l .next) highest (l .sent) (l .closed) (l .desired) (l .minimum) (l .entries)
+_with-highest_ l highest = changed l (l .next) highest (l .sent) (l .closed) (l .desired) (l .minimum) (l .oldest) (l .entries)
 
 -- ... with another last PDCP number sent
 infixl 20 _with-sent_
 abbrev pub _with-sent_ : {A : Type 0} → Ledger A → ℕ → Ledger A
-_with-sent_ l sent = changed l (l .next) (l .highest) sent (l .closed) (l .desired) (l .minimum) (l .entries)
+_with-sent_ l sent = changed l (l .next) (l .highest) sent (l .closed) (l .desired) (l .minimum) (l .oldest) (l .entries)
 
 -- ... closed or not
 infixl 20 _with-closed_
 abbrev pub _with-closed_ : {A : Type 0} → Ledger A → Bool → Ledger A
-_with-closed_ l closed = changed l (l .next) (l .highest) (l .sent) closed (l .desired) (l .minimum) (l .entries)
+_with-closed_ l closed = changed l (l .next) (l .highest) (l .sent) closed (l .desired) (l .minimum) (l .oldest) (l .entries)
 
 -- ... with the two sizes of a status
 infixl 20 _with-sizes-of_
 abbrev pub _with-sizes-of_ : {A : Type 0} → Ledger A → Status → Ledger A
-_with-sizes-of_ l s = changed l (l .next) (l .highest) (l .sent) (l .closed) (s .desired) (s .minimum) (l .entries)
+_with-sizes-of_ l s = changed l (l .next) (l .highest) (l .sent) (l .closed) (s .desired) (s .minimum) (l .oldest) (l .entries)
+
+-- ... with another place of the oldest waiting entry
+infixl 20 _with-oldest_
+abbrev pub _with-oldest_ : {A : Type 0} → Ledger A → ℕ → Ledger A
+_with-oldest_ l oldest = changed l (l .next) (l .highest) (l .sent) (l .closed) (l .desired) (l .minimum) oldest (l .entries)
 
 -- ... with other entries, whatever their labels
 infixl 20 _with-entries_
 abbrev pub _with-entries_ : {A B : Type 0} → Ledger A → List (Entry B) → Ledger B
-_with-entries_ l entries = changed l (l .next) (l .highest) (l .sent) (l .closed) (l .desired) (l .minimum) entries
+_with-entries_ l entries = changed l (l .next) (l .highest) (l .sent) (l .closed) (l .desired) (l .minimum) (l .oldest) entries
 
 -- ---- open
 
@@ -109,27 +118,32 @@ openLedger L first f =
 
 -- ---- send
 
--- forward from H to a PDCP number
-abbrev pub fromHighest : {A : Type 0} → Ledger A → ℕ → ℕ
-fromHighest l p = forward (pdcps (l .bits)) (l .highest) p
+-- forward from a PDCP number to another
+abbrev pub pdcpsTo : {A : Type 0} → Ledger A → ℕ → ℕ → ℕ
+pdcpsTo l o p = forward (pdcps (l .bits)) o p
 
--- a PDCP number lies past the last sent
-abbrev pub pastLast : {A : Type 0} → Ledger A → ℕ → Bool
-pastLast l p = ltb (fromHighest l (l .sent)) (fromHighest l p)
+-- seen from o, a PDCP number lies past the last sent
+abbrev pub pastLast : {A : Type 0} → Ledger A → ℕ → ℕ → Bool
+pastLast l o p = ltb (pdcpsTo l o (l .sent)) (pdcpsTo l o p)
 
--- and less than half the PDCP numbers past H
-abbrev pub withinHalf : {A : Type 0} → Ledger A → ℕ → Bool
-withinHalf l p = ltb (fromHighest l p) (pdcps (l .bits) / 2)
+-- and less than half the PDCP numbers past o
+abbrev pub withinHalf : {A : Type 0} → Ledger A → ℕ → ℕ → Bool
+withinHalf l o p = ltb (pdcpsTo l o p) (pdcps (l .bits) / 2)
 
--- the PDCP order: both
+-- both, seen from the first of entries; where there are none, any PDCP number
+abbrev pub follows : {A : Type 0} → Ledger A → ℕ → List (Entry A) → Bool
+follows l p [] = true
+follows l p (e ∷ es) = pastLast l (e .pdcp) p and withinHalf l (e .pdcp) p
+
+-- the PDCP order: a PDCP number differs from H, and follows the oldest waiting entry, if one waits
 abbrev pub inOrder : {A : Type 0} → Ledger A → ℕ → Bool
-inOrder l p = pastLast l p and withinHalf l p
+inOrder l p = not (eqb p (l .highest)) and follows l p (drop (l .oldest) (l .entries))
 
 -- the entry of a send: it waits
 abbrev pub newEntry : {A : Type 0} → ℕ → ℕ → A → Entry A
 newEntry n p a = record { number = n; pdcp = p; fate = waiting; label = a }
 
--- the state after an accepted send
+-- the state after an accepted send; where none waited the new entry is the oldest that waits, and stands behind all others
 abbrev pub sentState : {A : Type 0} → Ledger A → ℕ → A → Ledger A
 sentState l p a =
     l with-next (l .next + 1) % modulusOf (l .bits) with-sent p with-entries l .entries ++ (newEntry (l .next) p a ∷ [])
@@ -143,6 +157,21 @@ send l p a =
     if leb mostEntries (length (l .entries)) then refusing 36 l else
     answering (l .next) (sentState l p a)
 
+-- ---- where the oldest waiting entry stands
+
+-- whether an entry waits
+abbrev pub waits : {A : Type 0} → Entry A → Bool
+waits e = elim (e .fate) [ waiting ↦ true | lost ↦ false ]
+
+-- behind how many others the oldest waiting entry stands; where none waits, how many there are
+abbrev pub waitingAt : {A : Type 0} → List (Entry A) → ℕ
+waitingAt [] = 0
+waitingAt (e ∷ es) = if waits e then 0 else suc (waitingAt es)
+
+-- a ledger with other entries, whose oldest waiting one is looked for from a place on
+abbrev pub holding : {A : Type 0} → Ledger A → ℕ → List (Entry A) → Ledger A
+holding l place es = l with-oldest place + waitingAt (drop place es) with-entries es
+
 -- ---- accepting a status
 
 -- entries, and how many of them a pass changed or took out
@@ -153,10 +182,6 @@ pub record Passed (A : Type 0) : Type 0 where
 -- an entry, lost
 abbrev pub asLost : {A : Type 0} → Entry A → Entry A
 asLost e = record { number = e .number; pdcp = e .pdcp; fate = lost; label = e .label }
-
--- whether an entry waits
-abbrev pub waits : {A : Type 0} → Entry A → Bool
-waits e = elim (e .fate) [ waiting ↦ true | lost ↦ false ]
 
 -- an entry waits and bears the number
 abbrev pub bears : {A : Type 0} → Entry A → ℕ → Bool
@@ -215,9 +240,10 @@ pub record Accepted : Type 0 where
 abbrev pub countsOf : Status → ℕ → ℕ → Accepted
 countsOf s f n = record { freed = f; lost = n; final = s .final }
 
--- the state after an accepted status
+-- the state after an accepted status; the oldest waiting entry is looked for from where it stood, since in a reached state all in front of that is
+-- lost and stays
 abbrev pub acceptedState : {A : Type 0} → Ledger A → Status → List (Entry A) → Ledger A
-acceptedState l s es = l with-highest s .highest with-closed s .final with-sizes-of s with-entries es
+acceptedState l s es = holding (l with-highest s .highest with-closed s .final with-sizes-of s) (l .oldest) es
 
 -- the ranges are applied, or were 33: then 34, or what is freed
 abbrev pub acceptMarked : {A : Type 0} → Ledger A → Status → Option (Passed A) → After (Ledger A) Accepted
@@ -265,10 +291,14 @@ pub record Taken : Type 0 where
 abbrev pub takenOf : {A : Type 0} → Entry A → Taken
 takenOf e = record { number = e .number; pdcp = e .pdcp }
 
+-- a place, when an entry at another has left: one less if that stood in front of it; if it stood there itself, the next one stands there now
+abbrev pub placeWithout : ℕ → ℕ → ℕ
+placeWithout at place = if ltb at place then place - 1 else place
+
 -- the entries from a place on: 38 for none, or the first of them, and the state without it
 abbrev pub takeFrom : {A : Type 0} → Ledger A → List (Entry A) → List (Entry A) → After (Ledger A) Taken
 takeFrom l front [] = refusing 38 l
-takeFrom l front (e ∷ es) = answering (takenOf e) (l with-entries front ++ es)
+takeFrom l front (e ∷ es) = answering (takenOf e) (holding l (placeWithout (length front) (l .oldest)) (front ++ es))
 
 -- take: 38, or the two numbers
 abbrev pub takeOldest : {A : Type 0} → Ledger A → After (Ledger A) Taken

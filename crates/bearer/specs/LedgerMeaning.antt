@@ -1,15 +1,14 @@
--- What the master's machine means: every ledger that calls reach from open is as document 01 says, on packet indexes that never
--- roll over, whatever frames were accepted on the way. Packet i is the i-th accepted send. The statements are `LedgersMean`, `SendsMean`,
--- `TakesMean` and `StatusesMean`, at the end; they are proved in proofs/Master/LedgerMeans.antt.
+-- What the master's machine means: every ledger that calls reach from open is as document 01 says, with 35 as request Three of document 02
+-- mends it, on packet indexes that never roll over, whatever frames were accepted on the way. Packet i is the i-th accepted send. The
+-- statements are `LedgersMean`, `SendsMean`, `TakesMean` and `StatusesMean`, at the end; they are proved in proofs/Master/LedgerMeans.antt.
 -- Assumes nothing.
 use mathlib.Core.Path.{_≡_}
 use mathlib.Core.Bool.{true, false, not, Bool}
 use mathlib.Core.List.{List, [], _∷_, _++_, map}
-use Prim.Native.Nat.{ℕ, suc, _+_, _/_, _^_, _≤_, _<_}
+use Prim.Native.Nat.{ℕ, _+_, _-_, _^_, _≤_, _<_}
 use lib.ListN.{length, getD}
 use Rattle.basics.specs.Basics.{if_then_else_, done, _or_}
 use Rattle.circle.specs.Circle.{forward}
-use Rattle.circle.specs.Lengths.{pdcps}
 use Rattle.frame_layout.specs.Frames.{Status, status-of, readFrame}
 use Rattle.bearer.specs.Ledger.{waiting, lost, Entry, Ledger, Accepted, Taken, openLedger, send, accept, takeOldest}
 use Rattle.bearer.specs.Packets.{numberOf, oneBefore, lastOf, packets, Rising, In, inRanges, Each}
@@ -94,13 +93,19 @@ abbrev pub lostIn : List (Entry ℕ) → List (Entry ℕ)
 lostIn [] = []
 lostIn (e ∷ es) = if isWaiting e then lostIn es else e ∷ lostIn es
 
--- forward from H to a PDCP number
-abbrev pub fromHighest : ℕ → ℕ → ℕ → ℕ
-fromHighest L h p = forward (2 ^ L) h p
+-- the lost entries in front of the oldest that waits; all where none waits
+abbrev pub inFront : List (Entry ℕ) → List (Entry ℕ)
+inFront [] = []
+inFront (e ∷ es) = if isWaiting e then [] else e ∷ inFront es
 
--- forward from H to an entry's PDCP number
-abbrev pub pastHighest : ℕ → Ledger ℕ → Entry ℕ → ℕ
-pastHighest L l e = fromHighest L (l .highest) (e .pdcp)
+-- the PDCP number of the oldest of entries; 0 for none
+abbrev pub oldestPdcp : List (Entry ℕ) → ℕ
+oldestPdcp [] = 0
+oldestPdcp (e ∷ es) = e .pdcp
+
+-- forward to the PDCP number of an entry from that of the oldest one that waits
+abbrev pub fromOldest : ℕ → Ledger ℕ → Entry ℕ → ℕ
+fromOldest L l e = forward (2 ^ L) (oldestPdcp (waitingIn (l .entries))) (e .pdcp)
 
 -- ---- what a ledger means
 
@@ -123,12 +128,16 @@ pub record LedgerMeans (L first f : ℕ) (l : Ledger ℕ) (b : Books) : Type 0 w
   pub pdcps-are : Each (λ (e : Entry ℕ). e .pdcp ≡ getD (b .sent) (e .label) 0) (l .entries)
   -- "Numbers go out consecutively modulo M": the next one is the next packet's
   pub next-is : l .next ≡ numberOf L first (length (b .sent))
-  -- forward from H the waiting entries' PDCP numbers strictly rise, each more than 0 and less than 2^(L-1): they are distinct, and none is H
-  pub pdcps-rise : Rising (map (pastHighest L l) (waitingIn (l .entries)))
-  pub past-highest : Each (λ (e : Entry ℕ). 0 < pastHighest L l e) (waitingIn (l .entries))
-  pub within-half : Each (λ (e : Entry ℕ). pastHighest L l e < pdcps L / 2) (waitingIn (l .entries))
-  -- from a waiting packet through any other there are fewer than 2^(L-1), so an X2-U number is that of one waiting packet at most
-  pub span : (i j : ℕ) → In i (packets (waitingIn (l .entries))) → In j (packets (waitingIn (l .entries))) → suc j < i + pdcps L / 2
+  -- the ledger knows where the oldest waiting entry stands: behind the lost ones in front of it
+  pub oldest-is : l .oldest ≡ length (inFront (l .entries))
+  -- measured forward from the PDCP number of the oldest waiting entry, those of the waiting entries strictly rise and stay below 2^(L-1); no two are
+  -- the same, and none is H
+  pub pdcps-rise : Rising (map (fromOldest L l) (waitingIn (l .entries)))
+  pub within-half : Each (λ (e : Entry ℕ). fromOldest L l e < 2 ^ (L - 1)) (waitingIn (l .entries))
+  pub one-pdcp : (i j : ℕ) → In i (packets (waitingIn (l .entries))) → In j (packets (waitingIn (l .entries))) → getD (b .sent) i 0 ≡ getD (b .sent) j 0 → i ≡ j
+  pub not-highest : Each (λ (e : Entry ℕ). e .pdcp ≡ l .highest → ⊥) (waitingIn (l .entries))
+  -- from a waiting packet through the last one sent there are at most 2^(L-1), so an X2-U number is that of one waiting packet at most
+  pub span : (i : ℕ) → In i (packets (waitingIn (l .entries))) → length (b .sent) ≤ i + 2 ^ (L - 1)
   pub one-number : (i j : ℕ) → In i (packets (waitingIn (l .entries))) → In j (packets (waitingIn (l .entries))) → numberOf L first i ≡ numberOf L first j → i ≡ j
   -- the store's limit
   pub most : length (l .entries) ≤ 512

@@ -16,6 +16,7 @@ use Prim.Native.Nat.{ℕ, _+_, _-_, _^_, _≤_, _<_, min}
 use lib.ListN.{length, getD}
 use Rattle.basics.specs.Basics.{isDone}
 use Rattle.basics.specs.Refusals.{Refusal, _when_, Given, Some}
+use Rattle.circle.specs.Circle.{forward}
 use Rattle.circle.specs.Sides.{behind, opposite}
 use Rattle.circle.specs.Lengths.{isLong, modulusOf, half}
 use Rattle.frame_layout.specs.Frames.{Status, statusType, statusOctets, statusIn}
@@ -28,7 +29,7 @@ use Rattle.bearer.specs.Rule.{Fates, isOpen, Lowest, highest, arrival, e
 use Rattle.bearer.specs.Packets.{numberOf, forwardFrom, liesFrom, packets, In, Rising, Each, inRanges}
 use Rattle.bearer.specs.Account.{Held, Account, indexes, runsIn, untold, listed, statusOf}
 use Rattle.bearer.specs.KeeperMeaning.{Reached, packetAt}
-use Rattle.bearer.specs.LedgerMeaning.{Books, lastSent, fromHighest, waitingIn, lostIn, LedgerReached}
+use Rattle.bearer.specs.LedgerMeaning.{Books, lastSent, waitingIn, lostIn, LedgerReached}
 
 -- ---- both ends
 
@@ -121,16 +122,24 @@ statusRefusals L first a desired minimum final buffer =
 
 -- ---- the master, by its books b, and by the packets that wait and that are lost
 
--- 35: "unless forward from H to p is more than forward from H to the last sent, and less than 2^(L-1)"
-abbrev pub OutOfOrder : ℕ → ℕ → Books → ℕ → Type 0
-OutOfOrder L f b p = (fromHighest L (b .highest) (lastSent L f b) < fromHighest L (b .highest) p) × (fromHighest L (b .highest) p < 2 ^ (L - 1)) → ⊥
+-- "With entries waiting, forward from the oldest waiting entry's PDCP number to p must exceed that to the last sent, and be below 2^(L-1). With
+-- none waiting, any p is allowed." (request Three); the first of the packets that wait is the oldest
+abbrev pub FollowsOldest : ℕ → ℕ → Books → List ℕ → ℕ → Type 0
+FollowsOldest L f b [] p = Unit
+FollowsOldest L f b (i ∷ is) p =
+    let o : ℕ = getD (b .sent) i 0 in
+    (forward (2 ^ L) o (lastSent L f b) < forward (2 ^ L) o p) × (forward (2 ^ L) o p < 2 ^ (L - 1))
+
+-- 35: "In both cases p must differ from H" and "35 is given exactly when this rule is broken"
+abbrev pub OutOfOrder : ℕ → ℕ → Books → List ℕ → ℕ → Type 0
+OutOfOrder L f b waiting p = (p ≡ b .highest → ⊥) × FollowsOldest L f b waiting p → ⊥
 
 -- "Send: 9, 10, 35, 36."
 abbrev pub sendRefusals : ℕ → ℕ → Books → List ℕ → List ℕ → ℕ → List Refusal
 sendRefusals L f b waiting lost p =
     (9 when (b .final ≡ true))
     ∷ (10 when (2 ^ L ≤ p))
-    ∷ (35 when OutOfOrder L f b p)
+    ∷ (35 when OutOfOrder L f b waiting p)
     ∷ (36 when (512 ≤ length waiting + length lost))
     ∷ []
 

@@ -51,7 +51,7 @@ pub record World : Type 0 where
   -- the secondary, and the master
   pub keeper : K.Keeper
   pub ledger : G.Ledger ℕ
-  -- the PDCP numbers of the accepted sends: packet i is the i-th of them
+  -- the PDCP numbers of the accepted sends: packet i is the i-th of them, so "a PDU sent again counts as another packet" (document 02, Three)
   pub sent : List ℕ
   -- what our written rule says became of each packet
   pub fates : Fates

@@ -1,10 +1,10 @@
 -- Demand 3 isn't about nothing: at each L a run that its hypotheses allow, at document 01's constants, with rollovers of both circles, a
--- burst lost, repeats, an overtaking, a status held back and a Final; and what it frees is what one expects. All is computed.
+-- burst lost, repeats, an overtaking, a status held back, a rest of half the PDCP circle and a Final; and what it frees is what one expects. All is computed.
 -- Assumes nothing.
 use mathlib.Core.Path.{_≡_, refl}
 use mathlib.Core.Bool.{Bool, true, false}
 use mathlib.Core.List.{List, [], _∷_, _++_, map}
-use Prim.Native.Nat.{ℕ, zero, suc, _+_, _-_, _%_}
+use Prim.Native.Nat.{ℕ, zero, suc, _+_, _-_, _/_, _%_}
 use lib.ListN.{length, replicate, take, drop}
 use Rattle.basics.specs.Basics.{bit}
 use Rattle.circle.specs.Lengths.{modulusOf, half, pdcps}
@@ -40,6 +40,10 @@ first L = modulusOf L - 10
 abbrev pub pdcp : ℕ → ℕ → ℕ
 pdcp L i = (pdcps L - 96 + i) % pdcps L
 
+-- the PDCP number half a circle past that of packet 359, the last one freed before the bearer rests
+abbrev pub rested : ℕ → ℕ
+rested L = (pdcp L 359 + pdcps L / 2) % pdcps L
+
 -- a packet's X2-U number
 abbrev pub number : ℕ → ℕ → ℕ
 number L i = numberOf L (first L) i
@@ -73,16 +77,15 @@ held-back L =
     ++ (asked true ∷ asked false ∷ deliver ∷ [])
 
 -- A status carries the other runs, and one lost packet is taken. Numbers that are no packet's come to the secondary: one that is M or more, and
--- one that is late; other octets come to the master, and opens that are refused to both. One more packet is sent, comes and is confirmed; a
--- Final closes both ends, and a repeat after it is refused.
+-- one that is late; other octets come to the master, and opens that are refused to both. The bearer rests while half the PDCP numbers go over the
+-- master alone; then one more packet is sent, comes and is confirmed; a Final closes both ends, and a repeat after it is refused.
 abbrev pub to-the-end : ℕ → List Event
 to-the-end L =
     asked false ∷ deliver ∷ take-one
     ∷ stray (modulusOf L) 0 ∷ stray (number L (half L + 400)) 0
     ∷ other []
     ∷ open-secondary 13 0 0 ∷ open-master L (modulusOf L) 0
-    ∷ sends L 360 1
-    ++ (copy 360 ∷ confirm (number L 360) ∷ asked true ∷ copy 360 ∷ deliver ∷ take-one ∷ [])
+    ∷ send (rested L) ∷ copy 360 ∷ confirm (number L 360) ∷ asked true ∷ copy 360 ∷ deliver ∷ take-one ∷ []
 
 -- one after the other
 abbrev pub run : ℕ → List Event
@@ -131,7 +134,7 @@ seen-at-end L w =
     -- three frames were built and delivered, and both ends are closed
     ∷ (length (w .built) ∷ w .delivered ∷ bit (w .keeper .closed) ∷ bit (w .ledger .closed) ∷ [] is 3 ∷ 3 ∷ 1 ∷ 1 ∷ [])
     -- the master's next X2-U number and its last PDCP number
-    ∷ (w .ledger .next ∷ w .ledger .sent ∷ [] is 351 ∷ 264 ∷ [])
+    ∷ (w .ledger .next ∷ w .ledger .sent ∷ [] is 351 ∷ rested L ∷ [])
     ∷ []
 
 -- ---- it is one that demand 3 speaks of

@@ -6,15 +6,17 @@ use mathlib.Core.List.{List, [], _∷_, _++_}
 use mathlib.Core.Option.{Option}
 use Prim.Native.Nat.{ℕ, _+_, _-_, _%_, _≤_, _<_, min}
 use native.Mathlib.Numerals.{add-one}
-use borrow.Author.Tests.{lt-ltb, le-ltb, lt-leb, le-leb}
+use native.Mathlib.Omega.{arith}
+use borrow.Author.Tests.{lt-ltb, le-ltb, lt-leb, le-leb, eq-eqb, ne-eqb}
 use lib.Dec.{eqb}
 use lib.ListN.{length, take, drop, drop-of-length-le}
+use lib.Seq.{length-take-le}
 use Rattle.basics.specs.Basics.{if_then_else_, _or_, alike, done, refused}
 use Rattle.circle.specs.Lengths.{isLength, isLong, modulusOf, pdcps, pdcpBefore, lengthIn}
 use Rattle.circle.proofs.Forms.{length-read}
 use Rattle.frame_layout.specs.Frames.{Status, readFrame}
 use Rattle.bearer.specs.Bearer.{mostEntries}
-use Rattle.bearer.specs.Ledger.{Entry, Ledger, Passed, fresh, inOrder, newEntry, send, markLost, waitsFor, freed, freeThrough, acceptedState, acceptMarked, acceptStatus, acceptReading, accept, openLedger, takeAt, takeOldest, _with-next_, _with-sent_, _with-entries_}
+use Rattle.bearer.specs.Ledger.{Entry, Ledger, Passed, fresh, inOrder, newEntry, send, waitingAt, markLost, waitsFor, freed, freeThrough, acceptedState, acceptMarked, acceptStatus, acceptReading, accept, openLedger, takeAt, placeWithout, takeOldest, _with-next_, _with-highest_, _with-sent_, _with-closed_, _with-sizes-of_, _with-oldest_, _with-entries_}
 use Rattle.frame_reader.specs.declared.Frame.{Frame}
 use Rattle.frame_reader.specs.Answers.{readingOf}
 use Rattle.ledger_marks.specs.declared.Marked.{Marked}
@@ -24,6 +26,7 @@ use Rattle.ledger_entries.specs.Steps.{keptOf, freeWhile}
 use Rattle.ledger_marks.specs.Walked.{markedAs}
 use Rattle.ledger_entries.proofs.Entries.{Stands}
 use Rattle.ledger.specs.View.{beside}
+use Rattle.ledger.specs.Steps.{followsFrom}
 
 -- ---- open
 
@@ -44,6 +47,22 @@ module _ (L first f : ℕ) where
 
 -- ---- send
 
+-- the PDCP order
+module _ (l : Ledger Unit) (p : ℕ) where
+  -- H is out of it
+  pub order-highest : p ≡ l .highest → inOrder l p ≡ false
+  order-highest a = rw (eq-eqb p (l .highest) a)
+
+  module _ (a : p ≡ l .highest → ⊥) where
+    -- with none waiting any other number is in it
+    pub order-any : length (l .entries) ≤ l .oldest → inOrder l p ≡ true
+    order-any none = rw (ne-eqb p (l .highest) a, drop-of-length-le (l .entries) none)
+
+    -- and else one that follows the oldest waiting entry's
+    pub order-oldest : {x : Entry Unit} → Stands (l .entries) (l .oldest) x → inOrder l p ≡ followsFrom (l .bits) (x .pdcp) (l .sent) p
+    order-oldest at = rw (ne-eqb p (l .highest) a, at .rest)
+
+-- the call, by its tests
 module _ (l : Ledger Unit) (p : ℕ) where
   pub send-closed : l .closed ≡ true → send l p tt ≡ beside (refused 9) l
   send-closed a = rw a
@@ -54,17 +73,17 @@ module _ (l : Ledger Unit) (p : ℕ) where
 
     module _ (b : p < pdcps (l .bits)) where
       pub send-order : inOrder l p ≡ false → send l p tt ≡ beside (refused 35) l
-      send-order o = rw (a, lt-ltb p (pdcps (l .bits)) b, o)
+      send-order o = rw (o, a, lt-ltb p (pdcps (l .bits)) b)
 
       module _ (o : inOrder l p ≡ true) where
         pub send-full : mostEntries ≤ length (l .entries) → send l p tt ≡ beside (refused 36) l
-        send-full f = rw (a, lt-ltb p (pdcps (l .bits)) b, o, le-leb mostEntries (length (l .entries)) f)
+        send-full f = rw (o, a, lt-ltb p (pdcps (l .bits)) b, le-leb mostEntries (length (l .entries)) f)
 
         -- the next number and the entries are the machine's
         pub send-done : length (l .entries) < mostEntries → (next : ℕ) → next ≡ (l .next + 1) % modulusOf (l .bits)
             → (es : List (Entry Unit)) → es ≡ l .entries ++ (newEntry (l .next) p tt ∷ [])
             → beside (done (l .next)) (l with-next next with-sent p with-entries es) ≡ send l p tt
-        send-done f next n es e = rw (a, lt-ltb p (pdcps (l .bits)) b, o, lt-leb mostEntries (length (l .entries)) f, n, e)
+        send-done f next n es e = rw (o, a, lt-ltb p (pdcps (l .bits)) b, lt-leb mostEntries (length (l .entries)) f, n, e)
 
 -- ---- accepting a status
 
@@ -107,14 +126,17 @@ module _ (l : Ledger Unit) (s : Status) (m : Marked) (count : ℕ) {o : Option (
     pub accept-highest : (eqb (s .highest) (l .highest) or waitsFor (s .highest) (heldIn (m .entries) count)) ≡ false → acceptMarked l s o ≡ beside (refused 34) l
     accept-highest b = rw (← e, a, b)
 
+    -- what is freed, and the place of the oldest waiting entry, are the machine's
     pub accept-done : (eqb (s .highest) (l .highest) or waitsFor (s .highest) (heldIn (m .entries) count)) ≡ true
         → (k : Kept) → keptOf k count ≡ freeWhile (not (eqb (s .highest) (l .highest))) (s .highest) (heldIn (m .entries) count)
         → (n : ℕ) → n ≡ min count mostEntries
-        → acceptMarked l s o ≡ beside (done (record { freed = n - k .count; lost = m .lost; final = s .final })) (acceptedState l s (heldIn (k .entries) (k .count)))
-    accept-done b k f n held =
+        → (place : ℕ) → place ≡ l .oldest + waitingAt (drop (l .oldest) (heldIn (k .entries) (k .count)))
+        → acceptMarked l s o ≡ beside (done (record { freed = n - k .count; lost = m .lost; final = s .final }))
+        (l with-highest s .highest with-closed s .final with-sizes-of s with-oldest place with-entries heldIn (k .entries) (k .count))
+    accept-done b k f n held place found =
         let es = heldIn (m .entries) count in
         let g : freed l (s .highest) es ≡ keptOf k count = freed-by (eqb (s .highest) (l .highest)) (record { entries = es; count = 0 }) (freeThrough (s .highest) es) ∙ sym f in
-        rw (← e, a, b, held) (ap (λ (p : Passed Unit). beside (done (record { freed = p .count; lost = m .lost; final = s .final })) (acceptedState l s (p .entries))) g)
+        rw (← e, a, b, held, found) (ap (λ (p : Passed Unit). beside (done (record { freed = p .count; lost = m .lost; final = s .final })) (acceptedState l s (p .entries))) g)
 
 -- ---- take
 
@@ -122,6 +144,10 @@ module _ (l : Ledger Unit) (i : ℕ) (e : i ≡ takeAt (l .closed) (l .entries))
   pub take-none : length (l .entries) ≤ i → takeOldest l ≡ beside (refused 38) l
   take-none all = rw (← e, drop-of-length-le (l .entries) all)
 
+  -- the entries and the place of the oldest waiting one are the machine's
   pub take-one : (x : Entry Unit) → Stands (l .entries) i x → (es : List (Entry Unit)) → es ≡ take i (l .entries) ++ drop (i + 1) (l .entries)
-      → beside (done (record { number = x .number; pdcp = x .pdcp })) (l with-entries es) ≡ takeOldest l
-  take-one x at es left = rw (← e, at .rest, left, add-one i)
+      → (place : ℕ) → place ≡ placeWithout i (l .oldest) + waitingAt (drop (placeWithout i (l .oldest)) es)
+      → beside (done (record { number = x .number; pdcp = x .pdcp })) (l with-oldest place with-entries es) ≡ takeOldest l
+  take-one x at es left place found =
+      let front : length (take i (l .entries)) ≡ i = length-take-le i (l .entries) (omega (arith, at .inside)) in
+      rw (found, left, ← e, at .rest, front, add-one i)

@@ -11,9 +11,9 @@ use Rattle.frame_layout.specs.Frames.{Status}
 use Rattle.frame_reader.specs.declared.Head.{Head}
 use Rattle.frame_reader.specs.Answers.{cursorOf, rangesFrom}
 
--- the PDCP order (`inOrder` of bearer's Ledger.antt) by L, the highest, the last sent and p
-abbrev pub inOrderAt : ℕ → ℕ → ℕ → ℕ → Bool
-inOrderAt L highest sent p = ltb (forward (pdcps L) highest sent) (forward (pdcps L) highest p) and ltb (forward (pdcps L) highest p) (pdcps L / 2)
+-- past the last sent and within half (`pastLast` and `withinHalf` of bearer's Ledger.antt), by L, the PDCP number o that it is seen from, the last sent and p
+abbrev pub followsFrom : ℕ → ℕ → ℕ → ℕ → Bool
+followsFrom L o sent p = ltb (forward (pdcps L) o sent) (forward (pdcps L) o p) and ltb (forward (pdcps L) o p) (pdcps L / 2)
 
 -- the status that a frame with this head bears
 abbrev pub statusIn : List ℕ → Head → Status

@@ -6,7 +6,7 @@ ghost use Rattle.circle.specs.Lengths.{isLong, lengthIn};
 ghost use Rattle.bearer.specs.Ledger.{fresh as «freshOf», openLedger, send as «sendOf», accept as «acceptOf», takeOldest, markLost, acceptStatus, acceptMarked};
 ghost use Rattle.frame_reader.specs.Answers.{cursorOf, Held};
 ghost use Rattle.ledger.specs.View.{ledgerIn, openedAs, sentAs, acceptedAs, takenAs, beside, opens};
-ghost use Rattle.ledger.specs.Steps.{inOrderAt, statusIn};
+ghost use Rattle.ledger.specs.Steps.{followsFrom, statusIn};
 use frame_reader::Frame;
 use frame_reader::Head;
 pub use ledger_entries::Entry;
@@ -14,7 +14,8 @@ pub use ledger_entries::Fate;
 use ledger_entries::MOST_ENTRIES;
 
 // The master's end: the entries and how many they are, L, the next X2-U number, the highest last accepted, the last PDCP
-// number sent, whether it is closed, and both sizes of the last status.
+// number sent, whether it is closed, both sizes of the last status, and where the oldest waiting entry stands (behind all
+// where none waits).
 pub struct Ledger {
     pub entries: [Entry; MOST_ENTRIES],
     pub count: usize,
@@ -25,6 +26,7 @@ pub struct Ledger {
     pub closed: bool,
     pub desired: u32,
     pub minimum: u32,
+    pub oldest: usize,
 }
 
 // What an open answers.
@@ -89,6 +91,7 @@ fn fresh(bits: u32, next: u32, highest: u32, closed: bool) -> Ledger
         closed: closed,
         desired: 0,
         minimum: 0,
+        oldest: 0,
     }
 }
 
@@ -125,13 +128,14 @@ pub fn open(bits: u32, first: u32, pdcp: u32) -> Opening
 
 // ---- send
 
-// The PDCP order: past the last sent, and less than half the PDCP numbers past the highest.
-fn in_order(bits: u32, highest: u32, sent: u32, pdcp: u32) -> bool
-    ensures { λ r. ⌜ r ≡ inOrderAt (lengthIn bits) highest sent pdcp ⌝ }
+// Whether a PDCP number follows, seen from that of the oldest waiting entry: past the last sent, and less than half the PDCP
+// numbers past the oldest.
+fn follows(bits: u32, oldest: u32, sent: u32, pdcp: u32) -> bool
+    ensures { λ r. ⌜ r ≡ followsFrom (lengthIn bits) oldest sent pdcp ⌝ }
 {
     let length = circle::length_in(bits);
-    let to_sent = circle::forward(highest, sent, length);
-    let to_pdcp = circle::forward(highest, pdcp, length);
+    let to_sent = circle::forward(oldest, sent, length);
+    let to_pdcp = circle::forward(oldest, pdcp, length);
     if to_pdcp <= to_sent {
         return false;
     }
@@ -148,7 +152,9 @@ fn not_sent(l: Ledger, refusal: u32) -> Sending
     }
 }
 
-// Send of a PDCP number: 9, 10, 35, 36, or the X2-U number given out.
+// Send of a PDCP number: 9, 10, 35, 36, or the X2-U number given out. 35 is for the highest, and with an entry waiting for a number
+// that doesn't follow the oldest such. That entry is read from `after`, since the compiler reads an entry of `l` through a copy of
+// all of them.
 pub fn send(l: Ledger, pdcp: u32) -> Sending
     ensures { λ r. ⌜ beside (sentAs (r .answer)) (ledgerIn (r .ledger)) ≡ «sendOf» (ledgerIn l) pdcp tt ⌝ }
 {
@@ -159,15 +165,22 @@ pub fn send(l: Ledger, pdcp: u32) -> Sending
     if circle::pdcps(l.bits) <= pdcp {
         return not_sent(l, refusal::NUMBER);
     }
-    if !in_order(l.bits, l.highest, l.sent, pdcp) {
+    if pdcp == l.highest {
         return not_sent(l, refusal::PDCP_ORDER);
+    }
+    let mut after = l;
+    let oldest = l.oldest;
+    if oldest < basics::least(l.count, MOST_ENTRIES) {
+        let e = after.entries[oldest];
+        if !follows(l.bits, e.pdcp, l.sent, pdcp) {
+            return not_sent(l, refusal::PDCP_ORDER);
+        }
     }
     let n = l.count;
     if MOST_ENTRIES <= n {
         return not_sent(l, refusal::ENTRIES);
     }
     let number = l.next;
-    let mut after = l;
     after.entries[n] = ledger_entries::new_entry(number, pdcp);
     after.count = n + 1;
     after.next = circle::onward(number, 1, circle::is_long(l.bits));
@@ -215,6 +228,7 @@ fn apply(l: Ledger, frame: &[u8], head: Head) -> Accepting
     }
     let kept = ledger_entries::free_through(ms, l.count, l.highest, head.highest);
     let rest = kept.entries;
+    let oldest = ledger_entries::waiting_from(rest, kept.count, l.oldest);
     let n = basics::least(l.count, MOST_ENTRIES);
     Accepting {
         answer: Accepted::Counts {
@@ -229,6 +243,7 @@ fn apply(l: Ledger, frame: &[u8], head: Head) -> Accepting
             closed: head.last,
             desired: head.desired,
             minimum: head.minimum,
+            oldest: oldest,
             ..l
         },
     }
@@ -269,7 +284,7 @@ pub fn take(l: Ledger) -> Taking
     ensures { λ r. ⌜ beside (takenAs (r .answer)) (ledgerIn (r .ledger)) ≡ takeOldest (ledgerIn l) ⌝ }
 {
     let es = l.entries;
-    let at = ledger_entries::oldest(es, l.count, l.closed);
+    let at = ledger_entries::to_take(es, l.count, l.closed);
     if basics::least(l.count, MOST_ENTRIES) <= at {
         return Taking {
             answer: Taken::Refused(refusal::NOTHING),
@@ -279,6 +294,8 @@ pub fn take(l: Ledger) -> Taking
     let e = es[at];
     let kept = ledger_entries::without(es, l.count, at);
     let rest = kept.entries;
+    let from = ledger_entries::place_without(at, l.oldest);
+    let place = ledger_entries::waiting_from(rest, kept.count, from);
     Taking {
         answer: Taken::Packet {
             number: e.number,
@@ -287,6 +304,7 @@ pub fn take(l: Ledger) -> Taking
         ledger: Ledger {
             entries: rest,
             count: kept.count,
+            oldest: place,
             ..l
         },
     }

@@ -12,7 +12,7 @@ use lib.Dec.{eqb}
 use lib.ListN.{length, getD, set, take, drop, drop-of-length-le}
 use lib.Seq.{take-all, take-suc-set, drop-set-lt}
 use Rattle.basics.specs.Basics.{if_then_else_, _and_, _or_}
-use Rattle.bearer.specs.Ledger.{Entry, Passed, waits, waitsFor, takeAt, kept, counted, freeThrough}
+use Rattle.bearer.specs.Ledger.{Entry, Passed, waits, waitingAt, waitsFor, takeAt, kept, counted, freeThrough}
 use Rattle.ledger_entries.specs.declared.Entry.{Entry as Slot}
 use Rattle.ledger_entries.specs.View.{entryIn, heldIn}
 use Rattle.ledger_entries.specs.Steps.{freeWhile}
@@ -33,20 +33,34 @@ module _ (h : ℕ) {xs : List (Entry Unit)} {i : ℕ} {e : Entry Unit} (at : Sta
   pub seen : (waits e and eqb (e .pdcp) h) ≡ true → waitsFor h (drop i xs) ≡ true
   seen b = rw (at .rest, b)
 
--- ---- looking for what may be taken
+-- ---- looking for a place
 
-module _ (closed : Bool) {xs : List (Entry Unit)} {i : ℕ} {e : Entry Unit} (at : Stands xs i e) where
-  -- an entry that may not go is passed over
-  pub passed-over : (closed or not (waits e)) ≡ false → i + takeAt closed (drop i xs) ≡ (i + 1) + takeAt closed (drop (i + 1) xs)
-  passed-over b = rw (add-one i, at .rest, b) (omega arith)
+-- a place is that of the first entry that passes a test; for none, it is behind all
+pub record Finds (place : List (Entry Unit) → ℕ) (test : Entry Unit → Bool) : Type 0 where
+  pub none : place [] ≡ 0
+  pub first : (e : Entry Unit) (es : List (Entry Unit)) → place (e ∷ es) ≡ (if test e then 0 else suc (place es))
 
-  -- one that may go is the oldest of them
-  pub may-be-taken : (closed or not (waits e)) ≡ true → i + takeAt closed (drop i xs) ≡ i
-  may-be-taken b = rw (at .rest, b, add-zero i)
+-- the oldest that waits
+pub finds-waiting : Finds waitingAt waits
+finds-waiting = record { none = refl; first = λ e es. refl }
 
--- all were passed
-pub none-taken : (closed : Bool) (xs : List (Entry Unit)) (i : ℕ) → length xs ≤ i → i + takeAt closed (drop i xs) ≡ i
-none-taken closed xs i all = rw (drop-of-length-le xs all, add-zero i)
+-- the oldest that may be taken
+pub finds-takeable : (closed : Bool) → Finds (takeAt closed) (λ (e : Entry Unit). closed or not (waits e))
+finds-takeable closed = record { none = refl; first = λ e es. refl }
+
+module _ {place : List (Entry Unit) → ℕ} {test : Entry Unit → Bool} (finds : Finds place test) where
+  module _ {xs : List (Entry Unit)} {i : ℕ} {e : Entry Unit} (at : Stands xs i e) where
+    -- an entry that doesn't pass the test is passed over
+    pub passed-over : test e ≡ false → i + place (drop i xs) ≡ (i + 1) + place (drop (i + 1) xs)
+    passed-over b = rw (add-one i, at .rest, finds .first e (drop (suc i) xs), b) (omega arith)
+
+    -- one that passes it is the first of them
+    pub found-here : test e ≡ true → i + place (drop i xs) ≡ i
+    found-here b = rw (at .rest, finds .first e (drop (suc i) xs), b, add-zero i)
+
+  -- all were passed
+  pub found-none : (xs : List (Entry Unit)) (i : ℕ) → length xs ≤ i → i + place (drop i xs) ≡ i
+  found-none xs i all = rw (drop-of-length-le xs all, finds .none, add-zero i)
 
 -- ---- freeing
 

@@ -8,7 +8,7 @@ ghost use lib.Dec.{eqb};
 ghost use lib.ListN.{take, drop};
 ghost use Rattle.basics.specs.Basics.{_and_, _or_};
 ghost use Rattle.bearer.specs.Bearer.{mostEntries};
-ghost use Rattle.bearer.specs.Ledger.{newEntry, waits as «waitsOf», asLost, waitsFor, takeAt};
+ghost use Rattle.bearer.specs.Ledger.{newEntry, waits as «waitsOf», waitingAt, asLost, waitsFor, takeAt, placeWithout};
 ghost use Rattle.ledger_entries.specs.View.{entryIn, heldIn};
 ghost use Rattle.ledger_entries.specs.Steps.{keptOf, freeWhile};
 
@@ -89,6 +89,31 @@ fn leaves(e: Entry, going: bool) -> bool
     if going { waits(e) } else { false }
 }
 
+// ---- the oldest waiting entry
+
+// Where the first waiting entry from a place on stands; for none, how many entries there are. A place past them is the answer itself.
+pub fn waiting_from(es: [Entry; MOST_ENTRIES], count: usize, place: usize) -> usize
+    ensures { λ r. ⌜ r ≡ place + waitingAt (drop place (heldIn es count)) ⌝ }
+{
+    let n = basics::least(count, MOST_ENTRIES);
+    let mut at = place;
+    while at < n {
+        let e = es[at];
+        if waits(e) {
+            return at;
+        }
+        at += 1;
+    }
+    at
+}
+
+// The place of what stood at a place, when the entry at another left.
+pub fn place_without(at: usize, place: usize) -> usize
+    ensures { λ r. ⌜ r ≡ placeWithout at place ⌝ }
+{
+    if at < place { place - 1 } else { place }
+}
+
 // ---- accepting a status
 
 // Whether a status may bear this highest: the one last accepted again, or a waiting entry's.
@@ -139,7 +164,7 @@ pub fn free_through(es: [Entry; MOST_ENTRIES], count: usize, last: u32, highest:
 // ---- take
 
 // Where the oldest entry that may be taken stands; for none, how many entries there are.
-pub fn oldest(es: [Entry; MOST_ENTRIES], count: usize, closed: bool) -> usize
+pub fn to_take(es: [Entry; MOST_ENTRIES], count: usize, closed: bool) -> usize
     ensures { λ r. ⌜ r ≡ takeAt closed (heldIn es count) ⌝ }
 {
     let n = basics::least(count, MOST_ENTRIES);

@@ -44,17 +44,21 @@ sendNext i l = send l i tt
 abbrev pub filled : ℕ → ℕ → Ledger Unit
 filled L entries = left sendNext (opened L) 0 (min entries mostEntries)
 
--- turn i sends PDCP number i modulo 512, and number 0 to a ledger opened afresh
-abbrev pub sendRound : ℕ → Turn ℕ
-sendRound L i l = sendNext (i % mostEntries) (if eqb (i % mostEntries) 0 then opened L else l)
+-- a round of so many turns sends the PDCP numbers from p on, the first of them to the same ledger as in every round
+abbrev pub sendRound : ℕ → ℕ → Ledger Unit → Turn ℕ
+sendRound p round start i l = sendNext (p + i % round) (if eqb (i % round) 0 then start else l)
 
 -- a number given out is worth itself
 abbrev pub number : ℕ → ℕ
 number n = n
 
+-- so many packets sent in such rounds
+abbrev pub rounds : ℕ → ℕ → Ledger Unit → ℕ → ℕ
+rounds p round start turns = total number (sendRound p round start) start 0 turns % 2 ^ 32
+
 -- so many packets sent, each to a ledger that has room
 abbrev pub sends : ℕ → ℕ → ℕ
-sends L turns = total number (sendRound L) (opened L) 0 turns % 2 ^ 32
+sends L turns = rounds 0 mostEntries (opened L) turns
 
 -- each turn accepts the same octets
 abbrev pub acceptAgain : List ℕ → Turn Accepted
@@ -68,3 +72,7 @@ counts a = a .freed + a .lost
 abbrev pub accepts : ℕ → ℕ → ℕ → List ℕ → ℕ
 accepts L entries turns octets =
     (total counts (acceptAgain octets) (filled L entries) 0 turns + left (acceptAgain octets) (filled L entries) 0 turns .next) % 2 ^ 32
+
+-- so many packets sent behind the entries that octets leave to a filled ledger, 16 a round
+abbrev pub sendsBehind : ℕ → ℕ → ℕ → List ℕ → ℕ
+sendsBehind L entries turns octets = rounds (min entries mostEntries) 16 (accept (filled L entries) octets .state) turns

@@ -51,7 +51,7 @@ pub const NOT_WAITING: u32 = 33; // the ranges are not strictly rising numbers o
 
 pub const NO_SUCH_HIGHEST: u32 = 34; // highest is neither the last accepted nor a waiting entry's left out of the ranges
 
-pub const PDCP_ORDER: u32 = 35; // the PDCP number isn't past the last sent, or half the space past the highest
+pub const PDCP_ORDER: u32 = 35; // the PDCP number is H, or with entries waiting isn't past the last sent, or is half the space past the oldest waiting one's
 
 pub const ENTRIES: u32 = 36; // 512 entries are held
 

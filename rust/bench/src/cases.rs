@@ -365,6 +365,31 @@ fn ledger<S: Side>(cases: &mut Vec<Case>) {
         highest: 262_143,
         ..REPORT
     };
+    // The frame has all lost, so what is sent then stands behind them.
+    for entries in [16, 496] {
+        let all = [Range {
+            start: 0,
+            end: entries - 1,
+        }];
+        let octets = status_frame(Form::Long, &report, &all);
+        let first: u32 = (entries..entries + 16).sum();
+        assert_eq!(S::sends_behind(18, entries, 16, &octets), first);
+        cases.push(Case {
+            id: format!("behind-{entries}"),
+            title: format!("send behind {entries} lost entries that nobody took"),
+            table: "ledger",
+            goal: None,
+            run: once_filled(move |turns| S::sends_behind(18, entries, turns, &octets)),
+        });
+    }
+    let octets = status_frame(Form::Long, &report, &[]);
+    cases.push(Case {
+        id: "accept-nothing".to_owned(),
+        title: "accept of a status that says nothing; 512 entries".to_owned(),
+        table: "ledger",
+        goal: None,
+        run: hostile::<S>(512, octets),
+    });
     let whole = [Range {
         start: 0,
         end: 16_777_215,
@@ -414,12 +439,17 @@ fn sends<S: Side>(turns: u32) -> Run {
     })
 }
 
-/// Frames refused by a ledger that was filled before; filling it is taken off.
+/// Frames refused by a ledger that was filled before.
 fn hostile<S: Side>(entries: u32, octets: Vec<u8>) -> Run {
+    once_filled(move |turns| S::accepts(18, entries, turns, &octets))
+}
+
+/// So many turns on a ledger that was filled before; filling it is taken off.
+fn once_filled(calls: impl Fn(u32) -> u32 + 'static) -> Run {
     let clock = Clock::new();
     Box::new(move |least| {
         let turns = u32::try_from(least).unwrap_or(u32::MAX);
-        let time = |turns: u32| clock.time(|| S::accepts(18, entries, black_box(turns), &octets));
+        let time = |turns: u32| clock.time(|| calls(black_box(turns)));
         let filling = (0..4).map(|_| time(0)).min().unwrap_or(Duration::ZERO);
         Measured {
             time: time(turns).saturating_sub(filling),

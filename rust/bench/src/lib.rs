@@ -54,6 +54,10 @@ pub trait Side: 'static {
     /// Opens a master at number 0 and PDCP number 0, sends `entries` packets,
     /// and gives it the frame so many times. The answer tells the last one.
     fn accepts(pdcp_bits: u32, entries: u32, turns: u32, octets: &[u8]) -> u32;
+    /// Opens a master at number 0 and PDCP number 0, sends `entries` packets,
+    /// gives it the frame once, and sends so many packets behind what is left, 16
+    /// into each copy of that ledger. The answer is the sum of their numbers.
+    fn sends_behind(pdcp_bits: u32, entries: u32, turns: u32, octets: &[u8]) -> u32;
 }
 
 /// Ranges, as either side takes them.

@@ -121,4 +121,24 @@ impl Side for Rust {
         }
         last
     }
+
+    #[inline(never)]
+    fn sends_behind(pdcp_bits: u32, entries: u32, turns: u32, octets: &[u8]) -> u32 {
+        let mut start = Ledger::open(pdcp_bits, 0, 0).expect("benchmarks open well");
+        for pdcp in 0..entries {
+            start.send(pdcp).expect("benchmarks send in order");
+        }
+        start.accept(octets).expect("the frame is accepted");
+        let mut ledger = start.clone();
+        let mut sum = 0_u32;
+        for turn in 0..turns {
+            let at = turn % 16;
+            if at == 0 {
+                ledger.clone_from(&start);
+            }
+            let sent = ledger.send(entries + at);
+            sum = sum.wrapping_add(sent.expect("benchmarks send in order"));
+        }
+        sum
+    }
 }

@@ -11,6 +11,13 @@ unsafe extern "C" {
         frame_len: usize,
     ) -> u32;
     fn probe_ledger_send(length: u32, turns: u32) -> u32;
+    fn probe_ledger_send_behind(
+        length: u32,
+        entries: u32,
+        turns: u32,
+        frame: *const u8,
+        frame_len: usize,
+    ) -> u32;
 }
 
 /// Opens a ledger, sends `entries` packets, and accepts `frame` so many times.
@@ -27,4 +34,13 @@ pub fn ledger_accepts(length: u32, entries: u32, turns: u32, frame: &[u8]) -> u3
 pub fn ledger_sends(length: u32, turns: u32) -> u32 {
     // SAFETY: numbers only.
     unsafe { probe_ledger_send(length, turns) }
+}
+
+/// Opens a ledger, sends `entries` packets, accepts `frame` once, and sends so
+/// many packets behind what is left, 16 into each copy of that ledger.
+#[inline]
+#[must_use]
+pub fn ledger_sends_behind(length: u32, entries: u32, turns: u32, frame: &[u8]) -> u32 {
+    // SAFETY: pointer and length are those of one slice.
+    unsafe { probe_ledger_send_behind(length, entries, turns, frame.as_ptr(), frame.len()) }
 }

@@ -1,7 +1,8 @@
 //! Demand 3, checked by packet identity.
 //!
-//! Packet i is the i-th accepted send. Whoever plays a bearer inside these
-//! bounds tells a [`Watch`] of every call and its answer:
+//! Packet i is the i-th accepted send: a PDU sent again is another packet.
+//! Whoever plays a bearer inside these bounds tells a [`Watch`] of every call and
+//! its answer:
 //!
 //! * E1: refused sends count for nothing.
 //! * E2: an arrival that 9 or 10 doesn't refuse is a copy of some packet i < N
@@ -22,6 +23,10 @@
 //!
 //! A further copy of a packet is answered with 12 from the lowest open packet
 //! on, with 18 exactly M/2 before it, with 11 elsewhere.
+//!
+//! And what (iii) stands on: of the packets that wait at the master, no PDCP
+//! number is H, and measured from the oldest's they strictly rise, below half
+//! the circle. So no two are the same.
 //!
 //! "Declared lost" follows document 01's sentences on packet indexes; nothing
 //! here knows how the library keeps its state.
@@ -86,8 +91,14 @@ pub struct Watch {
     unreported: VecDeque<usize>,
     /// Every packet before this one is in C(k) or R(k), k the frame accepted last.
     settled: usize,
+    /// H, the highest of the frame accepted last.
+    highest: u32,
+    /// The highest of each frame built that wasn't accepted yet.
+    highests: VecDeque<u32>,
     /// Nothing before this packet is held by the master; only saves time.
     held_from: usize,
+    /// Nothing before this packet waits at the master; only saves time.
+    waiting_from: usize,
     tally: Tally,
 }
 
@@ -110,7 +121,10 @@ impl Watch {
             highest_accepted: None,
             unreported: VecDeque::new(),
             settled: 0,
+            highest: ((opening.first_pdcp + opening.pdcps() - 1) % opening.pdcps()) as u32,
+            highests: VecDeque::new(),
             held_from: 0,
+            waiting_from: 0,
             tally: Tally::default(),
         }
     }
@@ -179,7 +193,11 @@ impl Watch {
             frame: NEVER,
             taken: false,
         });
-        Ok(())
+        // Those that wait between the oldest and the newest were seen before.
+        let oldest = self.oldest_waiting();
+        let before = (oldest..packet).rev().find(|&before| self.waits(before));
+        let oldest = Some(oldest).filter(|&oldest| Some(oldest) < before);
+        self.in_order(oldest.into_iter().chain(before).chain([packet]))
     }
 
     /// A copy of `packet` arrived.
@@ -243,9 +261,10 @@ impl Watch {
         Ok(())
     }
 
-    /// A frame with these ranges was built.
-    pub fn built(&mut self, ranges: impl IntoIterator<Item = Range>) -> Verdict {
+    /// A frame with this highest and these ranges was built.
+    pub fn built(&mut self, highest: u32, ranges: impl IntoIterator<Item = Range>) -> Verdict {
         self.tally.built += 1;
+        self.highests.push_back(highest);
         for range in ranges {
             for number in self.expand(range) {
                 let lost = self.unreported.pop_front();
@@ -286,6 +305,7 @@ impl Watch {
         let settled =
             answer.map_err(|refusal| format!("frame {frame} was refused: {refusal:?}"))?;
         self.tally.accepted = frame;
+        self.highest = self.highests.pop_front().unwrap_or(self.highest);
         let freed = self.settle(frame);
         check!(
             freed == settled.freed,
@@ -315,7 +335,9 @@ impl Watch {
         }
         let more = entries.next();
         check!(more.is_none(), "the master still holds {more:?}");
-        Ok(())
+        let oldest = self.oldest_waiting();
+        let waiting = (oldest..self.packets.len()).filter(|&packet| self.waits(packet));
+        self.in_order(waiting)
     }
 
     /// Take was called, on a closed master or an open one; it answers a number
@@ -323,7 +345,7 @@ impl Watch {
     pub fn taken(&mut self, closed: bool, answer: Result<(u32, u32), Refusal>) -> Verdict {
         let oldest = (self.held_from..self.packets.len())
             .filter(|&packet| !self.has_left(packet))
-            .find(|&packet| closed || self.entry(packet).fate == Held::Lost);
+            .find(|&packet| closed || self.is_named(packet));
         let expected = oldest
             .map(|packet| self.numbers(packet))
             .ok_or(Refusal::NothingToTake);
@@ -404,12 +426,35 @@ impl Watch {
         freed || self.packets[packet].taken
     }
 
-    fn entry(&self, packet: usize) -> Entry {
+    /// Whether an accepted frame named a packet lost.
+    fn is_named(&self, packet: usize) -> bool {
         let known = self.packets[packet];
-        let named = known.fate == Fate::Lost && known.frame <= self.tally.accepted;
+        known.fate == Fate::Lost && known.frame <= self.tally.accepted
+    }
+
+    fn waits(&self, packet: usize) -> bool {
+        !self.has_left(packet) && !self.is_named(packet)
+    }
+
+    /// The oldest packet that waits at the master, or N if none does.
+    fn oldest_waiting(&mut self) -> usize {
+        while self.waiting_from < self.packets.len() && !self.waits(self.waiting_from) {
+            self.waiting_from += 1;
+        }
+        self.waiting_from
+    }
+
+    /// Checks the order of packets that wait, from the oldest on.
+    fn in_order(&self, waiting: impl Iterator<Item = usize>) -> Verdict {
+        let pdcps = waiting.map(|packet| self.packets[packet].pdcp);
+        waiting_in_order(self.opening, self.highest, pdcps)
+    }
+
+    fn entry(&self, packet: usize) -> Entry {
+        let named = self.is_named(packet);
         Entry {
             number: self.opening.number(packet),
-            pdcp: known.pdcp,
+            pdcp: self.packets[packet].pdcp,
             fate: if named { Held::Lost } else { Held::Waiting },
         }
     }
@@ -420,4 +465,25 @@ impl Watch {
         let count = (u64::from(range.end) + modulus - start) % modulus + 1;
         (start..start + count).map(move |number| (number % modulus) as u32)
     }
+}
+
+/// What send's rule keeps true of the PDCP numbers that wait, in sending order:
+/// none is H, and measured from the oldest they strictly rise, below half the
+/// circle.
+pub fn waiting_in_order(
+    opening: Opening,
+    highest: u32,
+    waiting: impl Iterator<Item = u32>,
+) -> Verdict {
+    let (mut oldest, mut last) = (None, None);
+    for pdcp in waiting {
+        let ahead = opening.pdcps_forward(*oldest.get_or_insert(pdcp), pdcp);
+        check!(pdcp != highest, "PDCP number {pdcp} waits, which is H");
+        check!(
+            last < Some(ahead) && ahead < opening.pdcps() / 2,
+            "PDCP number {pdcp} waits, {ahead} forward from the oldest, after {last:?}"
+        );
+        last = Some(ahead);
+    }
+    Ok(())
 }

@@ -1,7 +1,7 @@
-//! Document 01, and request One of document 02, retold without circles: numbers
-//! are absolute indexes that never roll over, and each keeps its fate for ever.
-//! Slow, and meant to be read beside the documents. The models share nothing with
-//! the library but the names of the refusals.
+//! Document 01, and requests One and Three of document 02, retold without
+//! circles: numbers are absolute indexes that never roll over, and each keeps its
+//! fate for ever. Slow, and meant to be read beside the documents. The models
+//! share nothing with the library but the names of the refusals.
 //!
 //! * [`Secondary`] and [`Master`] answer every call, within the protocol or not.
 //! * [`Watch`] checks demand 3 on a whole bearer, packet by packet, and [`Pair`]
@@ -39,6 +39,12 @@ impl Opening {
     #[must_use]
     pub fn pdcps(&self) -> u64 {
         1 << self.bits
+    }
+
+    /// Forward from one PDCP number to another.
+    #[must_use]
+    pub fn pdcps_forward(&self, from: u32, to: u32) -> u64 {
+        (u64::from(to) + self.pdcps() - u64::from(from)) % self.pdcps()
     }
 
     /// The X2-U number of an index.

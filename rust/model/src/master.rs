@@ -17,7 +17,8 @@ pub enum Fate {
     Taken,
 }
 
-/// A packet that was sent; its PDCP number counts on without rolling over.
+/// A packet that was sent. Its PDCP number counts on from those before it and
+/// never rolls over: what is sent again, or after a rest, is some turns on.
 #[derive(Clone, Copy, Debug)]
 struct Packet {
     pdcp: u64,
@@ -53,27 +54,21 @@ impl Master {
 
     /// Send of a PDCP number.
     pub fn send(&mut self, pdcp: u32) -> Result<u32, Refusal> {
-        let pdcps = self.opening.pdcps();
         if self.closed {
             return Err(Refusal::Closed);
         }
-        if u64::from(pdcp) >= pdcps {
+        if u64::from(pdcp) >= self.opening.pdcps() {
             return Err(Refusal::NumberTooLarge);
         }
-        let absolute = (self.highest..)
-            .find(|candidate| candidate % pdcps == u64::from(pdcp))
-            .unwrap_or_default();
-        if absolute <= self.last_sent || absolute - self.highest >= pdcps / 2 {
-            return Err(Refusal::PdcpOrder);
-        }
+        let pdcp = self.in_order(pdcp).ok_or(Refusal::PdcpOrder)?;
         if self.held().len() >= 512 {
             return Err(Refusal::LedgerFull);
         }
         self.packets.push(Packet {
-            pdcp: absolute,
+            pdcp,
             fate: Fate::Waiting,
         });
-        self.last_sent = absolute;
+        self.last_sent = pdcp;
         Ok(self.opening.number(self.packets.len() - 1))
     }
 
@@ -176,6 +171,25 @@ impl Master {
     fn waiting(&self) -> impl Iterator<Item = usize> {
         let waits = |index: &usize| self.packets[*index].fate == Fate::Waiting;
         (0..self.packets.len()).filter(waits)
+    }
+
+    /// Where a PDCP number counts on to, if it may be sent now.
+    fn in_order(&self, pdcp: u32) -> Option<u64> {
+        // "In both cases p must differ from H"
+        if pdcp == self.pdcp_number(self.highest) {
+            return None;
+        }
+        let next_from = |from: u64| (from..).find(|&next| self.pdcp_number(next) == pdcp);
+        let Some(oldest) = self.waiting().next() else {
+            // "With none waiting, any p is allowed."
+            return next_from(self.last_sent + 1);
+        };
+        // "forward from the oldest waiting entry's PDCP number to p must exceed
+        // that to the last sent, and be below 2^(L-1)"
+        let oldest = self.packets[oldest].pdcp;
+        let to_last = self.last_sent - oldest;
+        let half = self.opening.pdcps() / 2;
+        next_from(oldest).filter(|next| next - oldest > to_last && next - oldest < half)
     }
 
     /// The packets that the ranges name, expanded in order, if they are

@@ -96,10 +96,10 @@ impl Pair {
         {
             Err(refusal) => Ok(Err(refusal)),
             Ok(length) => {
-                let Frame::Status { ranges, .. } = frame::read(&buffer[..length]) else {
+                let Frame::Status { report, ranges, .. } = frame::read(&buffer[..length]) else {
                     return Err(format!("{:?} is no status", &buffer[..length]));
                 };
-                self.watch.built(ranges)?;
+                self.watch.built(report.highest, ranges)?;
                 self.watch.listed(self.keeper.listed_runs())?;
                 self.frames.push_back(buffer[..length].to_vec());
                 Ok(Ok(self.frames.back().map_or(&[], Vec::as_slice)))

@@ -2,16 +2,23 @@
 //! ends under watch, and recorded for another make to play.
 
 use crate::trace::{Event, Trace};
+use model::pair::Watched;
 use model::{Opening, Pair};
 use programs::replay::Call;
 use proptest::prelude::*;
-use proptest::sample::Index;
+use proptest::sample::{Index, select};
+use soak::order::{Before, Edge, Sends};
+use x2u::circle::Circle;
 use x2u::frame::LONGEST;
 
 /// Bearers that begin at most 700 packets before their circles roll over,
 /// with the long form as often as `long` says.
 pub fn openings(long: u32) -> impl Strategy<Value = Opening> {
-    let bits = prop_oneof![6 => Just(12_u32), 6 => Just(15), long => Just(18)];
+    openings_of(prop_oneof![6 => Just(12_u32), 6 => Just(15), long => Just(18)])
+}
+
+/// Such bearers with PDCP numbers of so many bits.
+pub fn openings_of(bits: impl Strategy<Value = u32>) -> impl Strategy<Value = Opening> {
     (bits, 0_u64..700, 0_u64..700).prop_map(|(bits, back, pdcp_back)| {
         let mut opening = Opening {
             bits,
@@ -36,6 +43,16 @@ pub enum Step {
     },
     /// A send of any PDCP number.
     SendAny(u32),
+    /// A send at a limit of the PDCP order, or so far beside it.
+    SendAt(Edge, i32),
+    /// The bearer rests on the master's own radio: once nothing waits, a part
+    /// of the PDCP circle goes by in 1,024ths, and `off`; then one is sent.
+    Rest {
+        /// How much of the circle.
+        part: u32,
+        /// How much more, or less.
+        off: i32,
+    },
     /// The next packets arrive, but for `dropped` of every `period`.
     Arrive {
         /// How many are dropped.
@@ -85,6 +102,9 @@ pub fn steps() -> impl Strategy<Value = Step> {
         8 => (prop_oneof![9 => Just(0_u32), 1 => 0_u32..4], many.clone())
             .prop_map(|(skip, count)| Step::Send { skip, count: count as u32 }),
         1 => any::<u32>().prop_map(Step::SendAny),
+        3 => (select(Edge::ALL.to_vec()), -2_i32..3)
+            .prop_map(|(edge, off)| Step::SendAt(edge, off)),
+        3 => rests(),
         8 => (0_usize..3, 2_usize..9, many.clone())
             .prop_map(|(dropped, period, count)| Step::Arrive { dropped, period, count }),
         3 => Just(Step::Arrive { dropped: 1, period: 2, count: 400 }),
@@ -103,13 +123,24 @@ pub fn steps() -> impl Strategy<Value = Step> {
     ]
 }
 
+/// Rests up to two turns of the PDCP circle, many of half a turn or a whole one:
+/// one PDU less than that, and the next bears H.
+fn rests() -> impl Strategy<Value = Step> {
+    let parts = prop_oneof![1 => Just(512_u32), 2 => Just(1_024), 2 => 0_u32..2_048];
+    let offs = prop_oneof![2 => Just(-1_i32), 3 => -3_i32..4];
+    (parts, offs).prop_map(|(part, off)| Step::Rest { part, off })
+}
+
 /// A bearer being played.
 pub struct Bearer {
-    opening: Opening,
+    /// The circle of PDCP numbers.
+    pub circle: Circle,
     /// Both ends, under watch.
     pub pair: Pair,
     /// All calls so far.
     pub trace: Trace,
+    /// What its sends met.
+    pub sends: Sends,
     /// The next packet that has not been on its way yet.
     fresh: usize,
 }
@@ -118,17 +149,21 @@ impl Bearer {
     /// Opens one.
     #[must_use]
     pub fn new(opening: Opening) -> Self {
+        let fits = "the opening was made to be accepted";
         Self {
-            opening,
+            circle: x2u::Bearer::judged(opening.bits, 0, 0).expect(fits).pdcp,
             pair: Pair::open(opening),
             trace: Trace::new(opening),
+            sends: Sends::default(),
             fresh: 0,
         }
     }
 
-    fn pdcp_after_last(&self, skip: u32) -> u32 {
-        let last = u64::from(self.pair.ledger.last_sent());
-        ((last + 1 + u64::from(skip)) % self.opening.pdcps()) as u32
+    /// The next PDCP number, after `skip` that are left out.
+    #[must_use]
+    pub fn pdcp_after_last(&self, skip: u32) -> u32 {
+        let last = self.pair.ledger.last_sent();
+        self.circle.step(last, skip.wrapping_add(1))
     }
 
     /// Makes a step. Says so if demand 3 doesn't hold then.
@@ -136,10 +171,20 @@ impl Bearer {
         match step {
             Step::Send { skip, count } => {
                 for _ in 0..*count {
-                    self.send(self.pdcp_after_last(*skip))?;
+                    let _ = self.send(self.pdcp_after_last(*skip))?;
                 }
             }
-            Step::SendAny(pdcp) => self.send(*pdcp)?,
+            Step::SendAny(pdcp) => {
+                let _ = self.send(*pdcp)?;
+            }
+            Step::SendAt(edge, off) => {
+                let _ = self.send(edge.near(self.circle, &self.pair.ledger, *off))?;
+            }
+            Step::Rest { part, off } => {
+                self.drain()?;
+                let pdus = self.circle.size() / 1_024 * part;
+                let _ = self.send(self.pdcp_after_last(pdus.wrapping_add_signed(*off)))?;
+            }
             Step::Arrive {
                 dropped,
                 period,
@@ -199,13 +244,32 @@ impl Bearer {
         Ok(())
     }
 
-    fn send(&mut self, pdcp: u32) -> Result<(), String> {
+    /// Sends a packet of that PDCP number.
+    pub fn send(&mut self, pdcp: u32) -> Watched<u32> {
         self.trace.call(&Call::Send(pdcp), Event::Sent(pdcp));
-        self.pair.send(pdcp).map(|_| ())
+        let before = Before::send(self.circle, &self.pair.ledger, pdcp);
+        let answer = self.pair.send(pdcp)?;
+        self.sends.count(before, answer);
+        Ok(answer)
+    }
+
+    /// All that was sent arrives, is confirmed, reported and settled, so that
+    /// nothing waits unless an end is closed.
+    pub fn drain(&mut self) -> Result<(), String> {
+        let sent = self.pair.watch.sent_count();
+        for packet in self.pair.watch.base()..sent {
+            self.arrive_again(Some(packet))?;
+        }
+        self.fresh = sent;
+        self.confirm_some(usize::MAX, usize::MAX)?;
+        // A full list takes two.
+        self.status(false, LONGEST)?;
+        self.status(false, LONGEST)?;
+        self.deliver(usize::MAX)
     }
 
     /// A copy of `packet` arrives.
-    pub fn arrive_packet(&mut self, packet: usize) -> model::pair::Watched<u32> {
+    pub fn arrive_packet(&mut self, packet: usize) -> Watched<u32> {
         let (number, pdcp) = self.pair.watch.numbers(packet);
         self.trace
             .call(&Call::Arrive([number, pdcp]), Event::Arrived(packet));

@@ -9,6 +9,7 @@ pub mod frames;
 #[cfg(feature = "product")]
 pub mod keeper;
 pub mod replay;
+pub mod rested;
 pub mod scripts;
 pub mod suite;
 pub mod trace;

@@ -37,6 +37,8 @@ pub enum Aim {
     Turn,
     /// One bearer whose forgotten losses meet their own numbers again.
     Forgotten,
+    /// One bearer that rests, with sends at the limits of the PDCP order.
+    Rests,
 }
 
 impl Strategy for Aim {
@@ -49,6 +51,7 @@ impl Strategy for Aim {
         let text = match *self {
             Self::Turn => moods::long_script(fork(), true).text,
             Self::Forgotten => moods::long_script(fork(), false).text,
+            Self::Rests => moods::rested(fork()).text,
             Self::Moods(least) => {
                 let mut text = moods::unopened(fork());
                 let mut lines = 0;

@@ -109,6 +109,22 @@ impl Suite {
     }
 }
 
+/// Tries a test's property on so many cases, others at each run. `holds` may
+/// count what it meets. Panics at a case that fails, shrunk.
+pub fn holds_on<S: Strategy>(
+    cases: u32,
+    strategy: &S,
+    holds: impl Fn(S::Value) -> Result<(), TestCaseError>,
+) {
+    let config = Config {
+        cases,
+        failure_persistence: None,
+        ..Config::default()
+    };
+    let outcome = TestRunner::new(config).run(strategy, holds);
+    outcome.unwrap_or_else(|failure| panic!("{failure}"));
+}
+
 /// A text, cut where it would fill pages.
 fn cut(text: &str) -> String {
     match text.char_indices().nth(4_000) {

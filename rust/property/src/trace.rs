@@ -142,10 +142,10 @@ impl Told {
         let Some(octets) = said.frame()? else {
             return Ok(());
         };
-        let Frame::Status { ranges, .. } = frame::read(&octets) else {
+        let Frame::Status { report, ranges, .. } = frame::read(&octets) else {
             return Err(format!("no status was built: {said:?}"));
         };
-        self.watch.built(ranges)?;
+        self.watch.built(report.highest, ranges)?;
         self.frames.push_back(octets);
         Ok(())
     }

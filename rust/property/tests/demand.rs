@@ -1,20 +1,28 @@
 //! Demand 3 on random bearers, by packet identity.
 
-use model::Opening;
+use model::{Opening, Watch};
 use property::bearer::{Bearer, Step, openings, steps};
+use property::suite::holds_on;
 use proptest::collection::vec;
 use proptest::prelude::*;
+use soak::order::Sends;
+use std::cell::RefCell;
 use x2u::Refusal;
 
-proptest! {
-    #![proptest_config(ProptestConfig { cases: 300, ..ProptestConfig::default() })]
-    #[test]
-    fn demand_3_holds(opening in openings(6), steps in vec(steps(), 1..120)) {
+#[test]
+fn demand_3_holds() {
+    let sends = RefCell::new(Sends::default());
+    let bearers = (openings(6), vec(steps(), 1..120));
+    holds_on(300, &bearers, |(opening, steps)| {
         let mut bearer = Bearer::new(opening);
         for step in &steps {
             bearer.make(step).map_err(TestCaseError::fail)?;
         }
-    }
+        sends.borrow_mut().add(bearer.sends);
+        Ok(())
+    });
+    let sends = sends.into_inner();
+    assert!(sends.least() >= 50, "{sends}");
 }
 
 /// More runs than a frame carries: the highest is held back, and demand 3 with
@@ -160,6 +168,37 @@ fn a_copy_opposite_base_keeps_demand_3() {
         bearer.make(&Step::Send { skip: 0, count: 1 }).unwrap();
         assert!(!bearer.pair.watch.may_arrive(0));
         assert_eq!(bearer.pair.watch.oldest_copy(), Some(1));
+    }
+}
+
+/// A packet that waits with H's number, or not in order, is seen as it is sent.
+#[test]
+fn the_watch_sees_a_send_out_of_order() {
+    for (bits, half) in [(12, 2_048), (15, 16_384), (18, 131_072)] {
+        let fresh = Watch::new(Opening {
+            bits,
+            first: 0,
+            first_pdcp: 10,
+        });
+        for (sends, seen) in [
+            (&[9][..], true),
+            (&[8], false),
+            (&[9 + half], false),
+            (&[20, 20], true),
+            (&[20, 19], true),
+            (&[20, 30, 25], true),
+            (&[20, 30, 30], true),
+            (&[20, 20 + half], true),
+            (&[20, 19 + half, 20 + half], true),
+            (&[20, 25, 19 + half], false),
+        ] {
+            let mut watch = fresh.clone();
+            let told = (0..).zip(sends).map(|(n, &pdcp)| watch.sent(pdcp, n));
+            let told: Vec<_> = told.collect();
+            let (last, before) = told.split_last().unwrap();
+            assert!(before.iter().all(Result::is_ok), "{sends:?}: {told:?}");
+            assert_eq!(last.is_err(), seen, "{sends:?}: {told:?}");
+        }
     }
 }
 

@@ -1,20 +1,26 @@
 //! The library's ledger against the naive one, on calls of every kind.
 
+use model::demand::waiting_in_order;
 use model::master::Fate as Told;
 use model::{Master, Opening};
 use property::bearer::openings;
+use property::suite::holds_on;
 use proptest::collection::vec;
 use proptest::prelude::*;
-use proptest::sample::Index;
+use proptest::sample::{Index, select};
+use soak::order::{Before, Edge, Sends, last_left};
+use std::cell::RefCell;
 use x2u::frame::{self, Frame, LONGEST, Range, Report};
 use x2u::ledger::Fate;
-use x2u::{Form, Ledger, Refusal};
+use x2u::{Bearer, Form, Ledger, Refusal};
 
 /// Where a status gets its highest from.
 #[derive(Clone, Debug)]
 enum Highest {
     Last,
     OfEntry(Index),
+    /// The last that waits and isn't named lost, so that nothing waits then.
+    OfLastLeft,
     Any(u32),
 }
 
@@ -34,10 +40,8 @@ enum Call {
         skip: u32,
         count: u32,
     },
-    /// A send near half the circle ahead of H.
-    SendHalfway {
-        off: i32,
-    },
+    /// A send at a limit of the PDCP order, or so far beside it.
+    SendAt(Edge, i32),
     SendAny(u32),
     /// A status naming entries from `from` on, `run` of every `period`.
     Accept {
@@ -59,7 +63,9 @@ fn calls() -> impl Strategy<Value = Call> {
         6 => (prop_oneof![4 => Just(0_u32), 1 => 0_u32..9], 1_u32..90)
             .prop_map(|(skip, count)| Call::Send { skip, count }),
         1 => (0_u32..1, 100_u32..400).prop_map(|(skip, count)| Call::Send { skip, count }),
-        2 => (-3_i32..3).prop_map(|off| Call::SendHalfway { off }),
+        4 => (select(Edge::ALL.to_vec()), -2_i32..3).prop_map(|(edge, off)| Call::SendAt(edge, off)),
+        // A rest, up to a whole turn of the longest circle and more.
+        4 => (0_u32..1 << 18, 1_u32..3).prop_map(|(skip, count)| Call::Send { skip, count }),
         1 => any::<u32>().prop_map(Call::SendAny),
         10 => accepts(),
         1 => vec(any::<u8>(), 0..30).prop_map(Call::AcceptAny),
@@ -71,6 +77,7 @@ fn accepts() -> impl Strategy<Value = Call> {
     let highest = prop_oneof![
         3 => Just(Highest::Last),
         6 => any::<Index>().prop_map(Highest::OfEntry),
+        3 => Just(Highest::OfLastLeft),
         1 => (0_u32..40_000).prop_map(Highest::Any),
     ];
     let spoil = prop_oneof![
@@ -102,8 +109,10 @@ fn accepts() -> impl Strategy<Value = Call> {
 
 struct Test {
     opening: Opening,
+    bearer: Bearer,
     ledger: Ledger,
     model: Master,
+    sends: Sends,
 }
 
 impl Test {
@@ -111,8 +120,10 @@ impl Test {
         let (first, first_pdcp) = (opening.first as u32, opening.first_pdcp as u32);
         Self {
             opening,
+            bearer: Bearer::judged(opening.bits, first, first_pdcp).unwrap(),
             ledger: Ledger::open(opening.bits, first, first_pdcp).unwrap(),
             model: Master::open(opening),
+            sends: Sends::default(),
         }
     }
 
@@ -120,12 +131,11 @@ impl Test {
         match call {
             Call::Send { skip, count } => {
                 for _ in 0..*count {
-                    self.send(self.pdcp(self.ledger.last_sent(), i64::from(*skip) + 1))?;
+                    self.send(self.bearer.pdcp.step(self.ledger.last_sent(), skip + 1))?;
                 }
             }
-            Call::SendHalfway { off } => {
-                let half = self.opening.pdcps() as i64 / 2;
-                self.send(self.pdcp(self.ledger.highest(), half + i64::from(*off)))?;
+            Call::SendAt(edge, off) => {
+                self.send(edge.near(self.bearer.pdcp, &self.ledger, *off))?
             }
             Call::SendAny(pdcp) => self.send(*pdcp)?,
             Call::Accept { .. } => {
@@ -143,12 +153,11 @@ impl Test {
         self.compare()
     }
 
-    fn pdcp(&self, from: u32, steps: i64) -> u32 {
-        (i64::from(from) + steps).rem_euclid(self.opening.pdcps() as i64) as u32
-    }
-
     fn send(&mut self, pdcp: u32) -> Result<(), TestCaseError> {
-        prop_assert_eq!(self.ledger.send(pdcp), self.model.send(pdcp));
+        let before = Before::send(self.bearer.pdcp, &self.ledger, pdcp);
+        let answer = self.ledger.send(pdcp);
+        prop_assert_eq!(answer, self.model.send(pdcp));
+        self.sends.count(before, answer);
         Ok(())
     }
 
@@ -191,11 +200,6 @@ impl Test {
             unreachable!();
         };
         let entries: Vec<_> = self.ledger.entries().copied().collect();
-        let highest = match highest {
-            Highest::OfEntry(index) if !entries.is_empty() => index.get(&entries).pdcp,
-            Highest::Any(pdcp) => *pdcp,
-            _ => self.ledger.highest(),
-        };
         let mut list: Vec<Range> = Vec::new();
         let start = if entries.is_empty() {
             0
@@ -213,6 +217,12 @@ impl Test {
             }
         }
         list.truncate(*ranges);
+        let highest = match highest {
+            Highest::OfEntry(index) if !entries.is_empty() => index.get(&entries).pdcp,
+            Highest::OfLastLeft => last_left(self.bearer.numbers(), &self.ledger, &list),
+            Highest::Any(pdcp) => *pdcp,
+            _ => self.ledger.highest(),
+        };
         self.spoil(&mut list, spoil);
         // Both forms are tried on short bearers; the other form must be refused.
         let form = if self.opening.bits == 18 {
@@ -281,17 +291,33 @@ impl Test {
         let fates = [Told::Waiting, Told::Lost, Told::Freed, Told::Taken];
         let all: usize = fates.into_iter().map(|fate| self.model.count(fate)).sum();
         prop_assert_eq!(all, self.model.sent());
-        Ok(())
+        self.check_waiting()
+    }
+
+    /// The entries that wait keep their order, and the oldest is told.
+    fn check_waiting(&self) -> Result<(), TestCaseError> {
+        let waiting = || {
+            let entries = self.ledger.entries();
+            entries.filter(|entry| entry.fate == Fate::Waiting)
+        };
+        prop_assert_eq!(self.ledger.oldest_waiting(), waiting().next());
+        let pdcps = waiting().map(|entry| entry.pdcp);
+        waiting_in_order(self.opening, self.ledger.highest(), pdcps).map_err(TestCaseError::fail)
     }
 }
 
-proptest! {
-    #![proptest_config(ProptestConfig { cases: 200, ..ProptestConfig::default() })]
-    #[test]
-    fn the_ledger_is_the_naive_one(opening in openings(6), calls in vec(calls(), 1..80)) {
+#[test]
+fn the_ledger_is_the_naive_one() {
+    let sends = RefCell::new(Sends::default());
+    let bearers = (openings(6), vec(calls(), 1..80));
+    holds_on(300, &bearers, |(opening, calls)| {
         let mut test = Test::new(opening);
         for call in &calls {
             test.make(call)?;
         }
-    }
+        sends.borrow_mut().add(test.sends);
+        Ok(())
+    });
+    let sends = sends.into_inner();
+    assert!(sends.least() >= 50, "{sends}");
 }

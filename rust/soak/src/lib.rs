@@ -3,7 +3,9 @@
 pub mod compare;
 pub mod frames;
 pub mod moods;
+pub mod naive;
 pub mod options;
+pub mod order;
 pub mod process;
 pub mod ramp;
 pub mod rng;

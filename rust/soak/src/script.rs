@@ -3,6 +3,7 @@
 //! nearly full, at the number half a circle away.
 
 use crate::frames;
+use crate::order::{Before, Edge, Sends};
 use crate::rng::Rng;
 use std::collections::VecDeque;
 use std::io::Write;
@@ -42,6 +43,8 @@ pub struct Script {
     pub rng: Rng,
     /// The bearer opened last.
     pub ends: Ends,
+    /// What its sends met.
+    pub sends: Sends,
 }
 
 impl Script {
@@ -63,6 +66,7 @@ impl Script {
             ends_of_lines: Vec::new(),
             rng,
             ends: opened(bits, first, first_pdcp),
+            sends: Sends::default(),
         };
         script.line(b"open", &[bits, first, first_pdcp]);
         script
@@ -157,7 +161,11 @@ impl Script {
 
     /// A send. The packet, if it goes out, is under way.
     pub fn send(&mut self, pdcp: u32) {
-        if let Ok(number) = self.ends.ledger.send(pdcp) {
+        let Ends { bearer, ledger, .. } = &mut self.ends;
+        let before = Before::send(bearer.pdcp, ledger, pdcp);
+        let answer = ledger.send(pdcp);
+        self.sends.count(before, answer);
+        if let Ok(number) = answer {
             self.ends.under_way.push_back((number, pdcp));
         }
         self.line(b"send", &[pdcp]);
@@ -167,6 +175,25 @@ impl Script {
     pub fn send_next(&mut self, skip: u32) {
         let pdcp = self.ends.bearer.pdcp;
         self.send(pdcp.step(self.ends.ledger.last_sent(), 1 + skip));
+    }
+
+    /// A send at a limit of the PDCP order, or one or two beside it.
+    pub fn send_at_edge(&mut self) {
+        let (edge, off) = (self.rng.pick(&Edge::ALL), self.rng.pick(&[-2, -1, 0, 1, 2]));
+        self.send(edge.near(self.ends.bearer.pdcp, &self.ends.ledger, off));
+    }
+
+    /// The send that is next in order after a rest: as many PDUs as went over
+    /// the master's own radio, up to a whole turn of their numbers.
+    pub fn send_after_rest(&mut self) {
+        let size = self.ends.bearer.pdcp.size();
+        let rest = match self.rng.within(0..4) {
+            0 => self.rng.within(0..size / 2),
+            1 => size / 2 - 2 + self.rng.within(0..4),
+            2 => size - 3 + self.rng.within(0..4),
+            _ => self.rng.within(size / 2..size),
+        };
+        self.send_next(rest);
     }
 
     /// A frame reaches the master.

@@ -3,6 +3,9 @@
 use programs::lister;
 use programs::replay::Replay;
 use soak::compare::{Frames, Scripts, Source};
+use soak::moods;
+use soak::order::Sends;
+use soak::rng::Rng;
 use soak::table::Table;
 use std::io;
 use x2u::Refusal;
@@ -38,6 +41,16 @@ fn scripts_meet_every_refusal_often() {
         let times = table.times(refusal);
         assert!(times >= 40, "{refusal:?} was given {times} times");
     }
+}
+
+#[test]
+fn scripts_rest_and_meet_the_limits_of_the_order() {
+    let mut rng = Rng::new(7);
+    let mut sends = Sends::default();
+    for _ in 0..300 {
+        sends.add(moods::script(Rng::new(rng.bits())).sends);
+    }
+    assert!(sends.least() >= 40, "{sends}");
 }
 
 #[test]

@@ -1,185 +1,17 @@
 //! The scripts for comparing programs, played on the naive model.
 
-use model::master::Fate;
-use model::{Master, Opening, Secondary};
-use programs::replay::{Call, Replay};
 use soak::moods;
+use soak::naive::alike;
+use soak::order::Sends;
 use soak::rng::Rng;
 use soak::script::Script;
-use x2u::frame::{self, Frame, LONGEST, Range};
-use x2u::{Bearer, Form, Refusal};
-
-struct Naive {
-    opening: Opening,
-    secondary: Secondary,
-    master: Master,
-}
-
-impl Naive {
-    fn open([bits, first, first_pdcp]: [u32; 3]) -> Self {
-        let opening = Opening {
-            bits,
-            first: first.into(),
-            first_pdcp: first_pdcp.into(),
-        };
-        Self {
-            opening,
-            secondary: Secondary::open(opening),
-            master: Master::open(opening),
-        }
-    }
-
-    fn answer(&mut self, call: Call<'_>) -> Result<String, Refusal> {
-        Ok(match call {
-            Call::Open([bits, first, first_pdcp]) => {
-                Bearer::judged(bits, first, first_pdcp)?;
-                *self = Self::open([bits, first, first_pdcp]);
-                "ok".to_owned()
-            }
-            Call::Arrive([number, pdcp]) => {
-                format!("lost\t{}", self.secondary.arrive(number, pdcp)?)
-            }
-            Call::Expire => format!("lost\t{}", self.secondary.expire()?),
-            Call::Confirm(number) => {
-                self.secondary.confirm(number)?;
-                "ok".to_owned()
-            }
-            Call::Status { is_final, room, .. } => self.status(is_final, room)?,
-            Call::Send(pdcp) => format!("sent\t{}", self.master.send(pdcp)?),
-            Call::Accept(octets) => self.accept(octets)?,
-            Call::Take => {
-                let (number, pdcp) = self.master.take()?;
-                format!("taken\t{number}\t{pdcp}")
-            }
-            Call::Keeper => self.keeper(),
-            Call::Ledger => self.ledger(),
-        })
-    }
-
-    fn ranges(&self, indexes: &[(usize, usize)]) -> Vec<Range> {
-        let number = |index| self.opening.number(index);
-        let range = |&(start, end): &(usize, usize)| Range {
-            start: number(start),
-            end: number(end),
-        };
-        indexes.iter().map(range).collect()
-    }
-
-    /// What the frame says; its octets are the codec's matter.
-    fn status(&mut self, is_final: bool, room: usize) -> Result<String, Refusal> {
-        let built = self.secondary.status(is_final, room)?;
-        let ranges = self.ranges(&built.ranges);
-        Ok(told(built.length, built.highest, is_final, &ranges))
-    }
-
-    fn accept(&mut self, octets: &[u8]) -> Result<String, Refusal> {
-        if self.master.is_closed() {
-            return Err(Refusal::Closed);
-        }
-        let ours = if self.opening.bits == 18 {
-            Form::Long
-        } else {
-            Form::Short
-        };
-        match frame::read(octets) {
-            Frame::Refused(refusal) => Err(refusal),
-            Frame::Status {
-                form,
-                report,
-                ranges,
-            } if form == ours => {
-                let ranges: Vec<Range> = ranges.collect();
-                let (freed, lost) = self.master.accept(&report, &ranges)?;
-                let last = u8::from(report.is_final);
-                Ok(format!("freed\t{freed}\tlost\t{lost}\tfinal\t{last}"))
-            }
-            _ => Err(Refusal::NotOurStatus),
-        }
-    }
-
-    fn keeper(&self) -> String {
-        let model = &self.secondary;
-        let runs = self.ranges(&model.listed());
-        let runs = joined(runs.iter().map(|run| format!("{}-{}", run.start, run.end)));
-        let records = joined(model.records().map(|index| {
-            let confirmed = u8::from(model.confirmed(index));
-            let number = self.opening.number(index);
-            format!("{number}:{}:{confirmed}", model.pdcp(index))
-        }));
-        let base = self.opening.number(model.base());
-        let closed = u8::from(model.is_closed());
-        let highest = model.reported_highest();
-        format!("keeper\t{base}\t{highest}\t{closed}\t{runs}\t{records}")
-    }
-
-    fn ledger(&self) -> String {
-        let model = &self.master;
-        let entries = joined(model.held().into_iter().map(|index| {
-            let (number, pdcp, fate) = model.entry(index);
-            let mark = if fate == Fate::Lost { 'l' } else { 'w' };
-            format!("{number}:{pdcp}:{mark}")
-        }));
-        let next = self.opening.number(model.sent());
-        let (highest, last_sent) = model.pdcp_marks();
-        let (desired, minimum) = model.sizes();
-        let closed = u8::from(model.is_closed());
-        format!("ledger\t{next}\t{highest}\t{last_sent}\t{closed}\t{desired}\t{minimum}\t{entries}")
-    }
-}
-
-fn joined(items: impl Iterator<Item = String>) -> String {
-    let items: Vec<String> = items.collect();
-    if items.is_empty() {
-        "none".to_owned()
-    } else {
-        items.join(",")
-    }
-}
-
-fn told(length: usize, highest: u32, is_final: bool, ranges: &[Range]) -> String {
-    format!("{length} octets, highest {highest}, final {is_final}, {ranges:?}")
-}
-
-/// A frame that the library built, as `told` tells it; other answers as they are.
-fn read_back(answer: &str) -> String {
-    let Some(digits) = answer.strip_prefix("frame\t") else {
-        return answer.to_owned();
-    };
-    let mut room = [0; LONGEST];
-    let octets = programs::text::octets_of(digits.as_bytes(), &mut room).unwrap();
-    match frame::read(octets) {
-        Frame::Status { report, ranges, .. } => {
-            let ranges: Vec<Range> = ranges.collect();
-            told(octets.len(), report.highest, report.is_final, &ranges)
-        }
-        other => panic!("{other:?} is no status"),
-    }
-}
+use std::fs;
+use std::path::Path;
+use x2u::frame::LONGEST;
 
 /// Plays a script on the library and on the model. Answers what both said.
 fn play(script: &Script) -> Vec<String> {
-    let mut naive = Naive::open([12, 0, 0]);
-    let mut replay = Replay::default();
-    let mut answers = Vec::new();
-    for (place, line) in script.text.split(|&octet| octet == b'\n').enumerate() {
-        let mut room = [0; LONGEST];
-        let Some(call) = Call::of_line(line, &mut room) else {
-            continue;
-        };
-        let mut out = Vec::new();
-        replay.answer(Some(line), &mut out).unwrap();
-        let answer = String::from_utf8(out).unwrap();
-        let expected = naive.answer(call);
-        let expected = expected.unwrap_or_else(|refusal| format!("refused\t{}", refusal.number()));
-        let call = line.escape_ascii();
-        assert_eq!(
-            read_back(answer.trim_end()),
-            expected,
-            "line {place}: {call}"
-        );
-        answers.push(expected);
-    }
-    answers
+    alike(script.text.split(|&octet| octet == b'\n')).unwrap()
 }
 
 #[test]
@@ -191,6 +23,39 @@ fn the_library_is_the_naive_model_on_scripts() {
         let script = Script::with_bits(Rng::new(rng.bits()), bits);
         let _ = play(&moods::in_moods(script));
     }
+}
+
+/// The calls that the gate plays on the product, with the answers they should have.
+#[test]
+fn library_and_model_give_the_answers_on_paper() {
+    let folder = Path::new(env!("CARGO_MANIFEST_DIR")).join("../../tests/calls");
+    let mut cases = 0;
+    for file in fs::read_dir(folder).unwrap() {
+        let text = fs::read_to_string(file.unwrap().path()).unwrap();
+        for case in text.split("\n\n").filter(|case| case.contains(" = ")) {
+            let lines = case.lines().filter_map(|line| line.split_once(" = "));
+            let (calls, wanted): (Vec<_>, Vec<_>) = lines
+                .map(|(call, answer)| (call.replace(' ', "\t"), answer.replace(' ', "\t")))
+                .unzip();
+            let answers = alike(calls.iter().map(String::as_bytes));
+            assert_eq!(answers, Ok(wanted), "{case}");
+            cases += 1;
+        }
+    }
+    assert!(cases > 20, "{cases} cases");
+}
+
+/// Rests of every length, and sends at the limits of the PDCP order.
+#[test]
+fn the_library_is_the_naive_model_on_rests() {
+    let mut rng = Rng::new(17);
+    let mut sends = Sends::default();
+    for _ in 0..60 {
+        let script = moods::rested(Rng::new(rng.bits()));
+        let _ = play(&script);
+        sends.add(script.sends);
+    }
+    assert!(sends.least() >= 100, "{sends}");
 }
 
 /// Half a circle of packets, of which every one arrives and is freed. Then a copy

@@ -120,6 +120,15 @@ fn a_short_ramp_passes_and_is_drawn() {
         let (_, refusals) = report.split_once("Refusals met").unwrap();
         let (met, _) = refusals.split_once("Refusals never met").unwrap();
         assert_eq!(met.contains("18  opposite"), bits != "18", "{met}");
+        // Some of these rests begin while packets wait, which are then in front.
+        assert!(met.contains("35  PDCP order"), "{met}");
+        assert!(report.contains("together, all rests"), "{report}");
+        assert!(
+            report.contains("together, all PDCP numbers used"),
+            "{report}"
+        );
+        let (_, untested) = report.split_once("Not tested in this run").unwrap();
+        assert!(!untested.contains("A rest of more than"), "{untested}");
         let chart = fs::read_to_string(folder.join("ramp.svg")).unwrap();
         assert!(chart.starts_with("<svg") && chart.trim_end().ends_with("</svg>"));
     }

@@ -54,6 +54,9 @@ pub struct Ledger {
     /// In sending order. A lost entry may bear the numbers of a waiting one
     /// once they rolled over, so only waiting entries are ever looked up.
     entries: Ring<Entry, MOST_ENTRIES>,
+    /// How many lost entries stand in front of the oldest waiting one, or in
+    /// all if none waits: send finds it without a walk over what nobody took.
+    lost_in_front: usize,
 }
 
 impl Ledger {
@@ -75,17 +78,15 @@ impl Ledger {
             minimum: 0,
             closed: false,
             entries: Ring::new(filler),
+            lost_in_front: 0,
         })
     }
 
     /// Sends the packet of that PDCP number and answers its X2-U number.
     pub fn send(&mut self, pdcp: u32) -> Answer<u32> {
         refuse_if(self.closed, Refusal::Closed)?;
-        let circle = self.bearer.pdcp;
-        refuse_if(!circle.holds(pdcp), Refusal::NumberTooLarge)?;
-        let ahead = circle.forward(self.highest, pdcp);
-        let in_order = ahead > circle.forward(self.highest, self.last_sent);
-        refuse_if(!in_order || ahead >= circle.half(), Refusal::PdcpOrder)?;
+        refuse_if(!self.bearer.pdcp.holds(pdcp), Refusal::NumberTooLarge)?;
+        refuse_if(!self.is_in_order(pdcp), Refusal::PdcpOrder)?;
         refuse_if(self.entries.is_full(), Refusal::LedgerFull)?;
 
         let number = self.next;
@@ -110,6 +111,8 @@ impl Ledger {
         let freed = self
             .entries
             .retain_front(through, |entry| entry.fate == Fate::Lost);
+        // Of those that the highest settles only lost ones are left.
+        self.count_lost_in_front(self.lost_in_front.max(through) - freed);
         self.highest = report.highest;
         self.desired = report.desired;
         self.minimum = report.minimum;
@@ -128,7 +131,10 @@ impl Ledger {
             .iter_from(0)
             .position(|entry| self.closed || entry.fate == Fate::Lost);
         let place = oldest.ok_or(Refusal::NothingToTake)?;
-        Ok(self.entries.remove(place))
+        let taken = self.entries.remove(place);
+        let from_front = usize::from(place < self.lost_in_front);
+        self.count_lost_in_front(self.lost_in_front - from_front);
+        Ok(taken)
     }
 
     /// The X2-U number of the next packet.
@@ -172,10 +178,29 @@ impl Ledger {
         self.entries.iter_from(0)
     }
 
+    /// The oldest entry that waits, from which the order of sends is measured.
+    #[must_use]
+    pub fn oldest_waiting(&self) -> Option<&Entry> {
+        self.entries.get(self.lost_in_front)
+    }
+
     /// How many entries are held.
     #[must_use]
     pub const fn entry_count(&self) -> usize {
         self.entries.len()
+    }
+
+    /// Whether a send of `pdcp` keeps the PDCP order: it isn't the highest last
+    /// accepted, or a repeated status would free it; and if any entry waits, it
+    /// lies past the last sent and less than half the circle on, both measured
+    /// from the oldest that does.
+    fn is_in_order(&self, pdcp: u32) -> bool {
+        let circle = self.bearer.pdcp;
+        let follows = |oldest: &Entry| {
+            let ahead = circle.forward(oldest.pdcp, pdcp);
+            ahead > circle.forward(oldest.pdcp, self.last_sent) && ahead < circle.half()
+        };
+        pdcp != self.highest && self.oldest_waiting().is_none_or(follows)
     }
 
     /// Reads a frame that must be a status of this bearer.
@@ -234,6 +259,13 @@ impl Ledger {
     fn waiting(&self) -> impl Iterator<Item = (usize, &Entry)> {
         let entries = self.entries.iter_from(0).enumerate();
         entries.filter(|(_, entry)| entry.fate == Fate::Waiting)
+    }
+
+    /// Counts the lost entries in front anew, the first `known` being so.
+    fn count_lost_in_front(&mut self, known: usize) {
+        let more = self.entries.iter_from(known);
+        let more = more.take_while(|entry| entry.fate == Fate::Lost).count();
+        self.lost_in_front = known + more;
     }
 
     fn mark_lost(&mut self, named: &Places) -> u32 {

@@ -181,6 +181,152 @@ fn the_ledger_fills_to_512() {
     assert_eq!(ledger.send(512), Ok(512));
 }
 
+/// The PDCP numbers, at L = 12, that a send would be accepted of.
+fn allowed(ledger: &Ledger) -> Vec<u32> {
+    let would = |pdcp: &u32| match ledger.clone().send(*pdcp) {
+        Ok(_) => true,
+        Err(refusal) => {
+            assert_eq!(refusal, Refusal::PdcpOrder);
+            false
+        }
+    };
+    (0..4_096).filter(would).collect()
+}
+
+/// All PDCP numbers, at L = 12, but one.
+fn all_but(one: u32) -> Vec<u32> {
+    (0..4_096).filter(|&pdcp| pdcp != one).collect()
+}
+
+#[test]
+fn with_none_waiting_any_number_but_h_is_allowed() {
+    let fresh = ledger_with(0);
+    assert_eq!(allowed(&fresh), all_but(4_095));
+    // All freed, all lost and untaken, all taken: the last sent isn't looked at.
+    let mut freed = ledger_with(3);
+    freed.accept(&status(2, &[])).unwrap();
+    assert_eq!(allowed(&freed), all_but(2));
+    let mut lost = ledger_with(3);
+    lost.accept(&status(4_095, &[run(0, 2)])).unwrap();
+    assert_eq!(allowed(&lost), all_but(4_095));
+    for _ in 0..3 {
+        lost.take().unwrap();
+        assert_eq!(allowed(&lost), all_but(4_095));
+    }
+}
+
+#[test]
+fn with_one_waiting_less_than_half_the_circle_is_allowed() {
+    for first in [0, 2_047, 2_048, 4_094] {
+        let mut ledger = ledger_with(0);
+        ledger.send(first).unwrap();
+        let mut ahead: Vec<u32> = (1..2_048).map(|ahead| (first + ahead) % 4_096).collect();
+        ahead.retain(|&pdcp| pdcp != 4_095);
+        ahead.sort_unstable();
+        assert_eq!(allowed(&ledger), ahead);
+    }
+}
+
+/// Lost entries don't count, wherever they stand; the last sent does, lost or not.
+#[test]
+fn the_order_is_measured_from_the_oldest_that_waits() {
+    let mut ledger = ledger_with(10);
+    assert_eq!(allowed(&ledger), (10..2_048).collect::<Vec<_>>());
+    // Number 1 behind the oldest, then 0 and 2 in front of it, then the last sent.
+    for (lost, oldest) in [
+        (run(1, 1), 0),
+        (run(0, 0), 2),
+        (run(2, 2), 3),
+        (run(9, 9), 3),
+    ] {
+        ledger.accept(&status(4_095, &[lost])).unwrap();
+        let ahead: Vec<u32> = (10..oldest + 2_048).collect();
+        assert_eq!(allowed(&ledger), ahead, "{lost:?} became lost");
+    }
+    // Freed through 5: 6 is the oldest. What is taken changes nothing.
+    ledger.accept(&status(5, &[])).unwrap();
+    for taken in [0, 1, 2, 9] {
+        assert_eq!(allowed(&ledger), (10..6 + 2_048).collect::<Vec<_>>());
+        assert_eq!(ledger.take().map(|entry| entry.number), Ok(taken));
+    }
+    assert_eq!(allowed(&ledger), (10..6 + 2_048).collect::<Vec<_>>());
+}
+
+/// More than half the circle, then whole turns of it, over the master alone.
+#[test]
+fn a_bearer_may_rest() {
+    let mut ledger = ledger_with(1);
+    let mut pdcp = 0;
+    for (number, rest) in (1..).zip([2_047, 2_048, 3_000, 4_096, 9_000, 1]) {
+        assert_eq!(ledger.accept(&status(pdcp, &[])), settled(1, 0));
+        if rest % 4_096 == 0 {
+            // H itself, which that status might repeat.
+            assert_eq!(ledger.send(pdcp), Err(Refusal::PdcpOrder));
+            pdcp += 1;
+        }
+        pdcp = (pdcp + rest) % 4_096;
+        assert_eq!(ledger.send(pdcp), Ok(number));
+    }
+}
+
+/// A PDU sent again is another packet, and a status that frees one leaves the other.
+#[test]
+fn a_pdu_may_be_sent_again() {
+    let mut ledger = ledger_with(3);
+    ledger.accept(&status(2, &[run(1, 1)])).unwrap();
+    assert_eq!(ledger.send(1), Ok(3));
+    assert_eq!(ledger.send(0), Err(Refusal::PdcpOrder));
+    assert_eq!(ledger.accept(&status(1, &[])), settled(1, 0));
+    assert_eq!(ledger.send(0), Ok(4));
+    assert_eq!(numbers(&ledger), [1, 4]);
+    assert_eq!(
+        ledger.take().map(|entry| (entry.number, entry.pdcp)),
+        Ok((1, 1))
+    );
+    assert_eq!(ledger.accept(&status(1, &[])), settled(0, 0));
+    assert_eq!(ledger.accept(&status(0, &[])), settled(1, 0));
+}
+
+#[test]
+fn order_is_judged_after_the_number_and_before_the_room() {
+    let mut ledger = ledger_with(512);
+    for (pdcp, refusal) in [
+        (4_096, Refusal::NumberTooLarge),
+        (4_095, Refusal::PdcpOrder),
+        (511, Refusal::PdcpOrder),
+        (2_048, Refusal::PdcpOrder),
+        (2_047, Refusal::LedgerFull),
+    ] {
+        assert_eq!(ledger.send(pdcp), Err(refusal));
+    }
+    // All lost: none waits, but there is no room either.
+    ledger.accept(&status(4_095, &[run(0, 511)])).unwrap();
+    assert_eq!(ledger.send(4_095), Err(Refusal::PdcpOrder));
+    assert_eq!(ledger.send(2_048), Err(Refusal::LedgerFull));
+}
+
+#[test]
+fn the_oldest_that_waits_is_told() {
+    let oldest = |ledger: &Ledger| ledger.oldest_waiting().map(|entry| entry.number);
+    let mut ledger = ledger_with(6);
+    assert_eq!(oldest(&ledger), Some(0));
+    ledger
+        .accept(&status(4_095, &[run(0, 1), run(3, 3)]))
+        .unwrap();
+    assert_eq!(oldest(&ledger), Some(2));
+    ledger.accept(&status(2, &[])).unwrap();
+    assert_eq!(oldest(&ledger), Some(4));
+    ledger.take().unwrap();
+    assert_eq!(oldest(&ledger), Some(4));
+    let last = written_status(Form::Short, &report(2, 0, 0, true), &[run(5, 5)]);
+    ledger.accept(&last).unwrap();
+    for left in [Some(4), Some(4), Some(4), None] {
+        assert_eq!(oldest(&ledger), left);
+        ledger.take().unwrap();
+    }
+    assert_eq!(oldest(&ledger), None);
+}
+
 #[test]
 fn a_closed_ledger_only_gives_out() {
     let mut ledger = ledger_with(3);

@@ -21,14 +21,15 @@ use Rattle.bearer.proofs.Lists.Mapped.{each-so, each-at}
 use Rattle.bearer.proofs.Lists.Elements.{in-head, in-tail, in-cons, each-set, rising-head, rising-tail, in-none}
 use Rattle.bearer.proofs.Lists.Numbers.{positive, same-packet}
 use Rattle.bearer.proofs.Lists.Lengths.{roomy}
+use Rattle.bearer.proofs.Answers.Accepted.{not-refused}
 use Rattle.bearer.proofs.Answers.Refused.{confirm-keeps}
 use Rattle.bearer.proofs.Secondary.Index.{image, noHeld, deliveredI, confirmedI}
 use Rattle.bearer.proofs.Secondary.ImageStatus.{Confirms, image-confirm}
 use Rattle.bearer.proofs.Secondary.FollowsStatus.{follows-confirm}
 use Rattle.bearer.proofs.Secondary.FollowsMeans.{follows-reach}
-use Rattle.bearer.proofs.Master.Pdcps.{pdcpOf, few}
-use Rattle.bearer.proofs.Joint.Flight.{flight-cut}
+use Rattle.bearer.proofs.Master.Pdcps.{pdcpOf}
 use Rattle.bearer.proofs.Joint.Joined.{Joint}
+use Rattle.bearer.proofs.Joint.Waiting.{waits-held, sent-near}
 
 -- ---- the packet that a number names
 
@@ -49,6 +50,12 @@ latest-least L first n i (x ∷ l) p e =
 
 -- ---- the records with one more mark
 
+-- the packet of a record is among theirs
+held-in : (hs : List Held) (p : ℕ) → p < length hs → In (getD hs p noHeld .index) (indexes hs)
+held-in [] p h = absurd (omega arith)
+held-in (x ∷ hs) zero h = in-head (x .index) (indexes hs)
+held-in (x ∷ hs) (suc p) h = in-tail (getD hs p noHeld .index) (x .index) (indexes hs) (held-in hs p (omega arith))
+
 marks-set : (C : List ℕ) (hs : List Held) (p : ℕ) → p < length hs → Rising (indexes hs) → Each (λ (h : Held). In (h .index) C → h .confirmed ≡ true) hs
     → Each (λ (h : Held). In (h .index) (getD hs p noHeld .index ∷ C) → h .confirmed ≡ true) (set hs p (deliveredI (getD hs p noHeld)))
 marks-set C [] p h r e = tt
@@ -65,14 +72,9 @@ marks-set C (x ∷ hs) zero h r e = (
       rest ys (λ i q. f i (in-tail i (y .index) (indexes ys) q)) (e .1),
     )
 marks-set C (x ∷ hs) (suc p) h r e = (
-  (λ q. ⊎-elim (λ z. absurd (let k = rising-head (x .index) (indexes hs) r (getD hs p noHeld .index) (there hs p (omega arith)) in omega arith)) (λ z. e .0 z) (in-cons (x .index) (getD hs p noHeld .index) C q)),
+  (λ q. ⊎-elim (λ z. absurd (let k = rising-head (x .index) (indexes hs) r (getD hs p noHeld .index) (held-in hs p (omega arith)) in omega arith)) (λ z. e .0 z) (in-cons (x .index) (getD hs p noHeld .index) C q)),
   marks-set C hs p (omega arith) (rising-tail (x .index) (indexes hs) r) (e .1),
 )
-  where
-    there : (ys : List Held) (p : ℕ) → p < length ys → In (getD ys p noHeld .index) (indexes ys)
-    there [] p h = absurd (omega arith)
-    there (y ∷ ys) zero h = in-head (y .index) (indexes ys)
-    there (y ∷ ys) (suc p) h = in-tail (getD ys p noHeld .index) (y .index) (indexes ys) (there ys p (omega arith))
 
 -- ---- the confirm
 
@@ -94,21 +96,18 @@ module _ {L first : ℕ} (ok : isLength L ≡ true) {w : World} (j : Joint L fir
   from-cut : j .second .cut ≤ i
   from-cut = at (λ (h : Held). j .second .cut ≤ h .index) (j .second .remembered .from-cut)
 
-  -- the number names it, and no later packet
-  pub named : latest L first n (w .fates .received) ≡ i
-  named =
+  -- the number names it, and no later packet: it waits at the master, so fewer than M were sent since
+  pub named : w .keeper .closed ≡ false → latest L first n (w .fates .received) ≡ i
+  named o =
       let r = roomy L ok in
-      let before = flight-cut (j .flight) in
-      let f = from-cut in
-      let sent-it : i < length (w .sent) = j .second .were-sent .received i got in
-      let near = few (r .some-pdcps) (j .there .master .ordered) (omega arith) in
+      let near = sent-near ok j o i (waits-held ok j o i (held-in held (c .place) (c .within))) in
       let most : latest L first n (w .fates .received) ≤ i =
       latest-most L first n i (w .fates .received) (λ k p e.
       ⊎-elim
       (λ (h : i < k).
       absurd
       (let s = j .second .were-sent .received k p in
-      let z : i ≡ k = same-packet (modulusOf L) first (positive L) i k (omega arith) (let a = r .halves in let b = r .more-pdcps in omega arith) (c .bears ∙ sym e) in
+      let z : i ≡ k = same-packet (modulusOf L) first (positive L) i k (omega arith) (omega (arith, near, s, r .halves, r .more-entries)) (c .bears ∙ sym e) in
       omega arith))
       (λ (h : k ≤ i). h)
       (order i k))
@@ -181,8 +180,9 @@ joint-confirm {L} {first} {w} ok j n = go (K.confirm (w .keeper) n .answer) refl
         j
     go (done u) e =
         let s = j .second in
+        let open-end = not-refused (w .keeper .closed) _ (w .keeper) _ u e .0 in
         let c = image-confirm L first (s .a) (follows-reach (s .follows)) n (ap (λ (k : K.Keeper). K.confirm k n .answer) (sym (s .keeper-is)) ∙ e) in
         let state = ap (λ (k : K.Keeper). K.confirm k n .state) (s .keeper-is) ∙ c .state-is in
         subst (Joint L first)
-        (sym (ap (λ (b : Bool). worldOf (K.confirm (w .keeper) n .state) b i) (ap isDone e) ∙ ap (λ (k : K.Keeper). worldOf k true i) state ∙ ap (worldOf (image L first (confirmedI (s .a) (c .place))) true) (named ok j c)))
+        (sym (ap (λ (b : Bool). worldOf (K.confirm (w .keeper) n .state) b i) (ap isDone e) ∙ ap (λ (k : K.Keeper). worldOf k true i) state ∙ ap (worldOf (image L first (confirmedI (s .a) (c .place))) true) (named ok j c open-end)))
         (joint-confirmed ok j c)

@@ -160,7 +160,7 @@ module _ {L first : ℕ} (ok : isLength L ≡ true) {w : World} (j : Joint L fir
           ⊎-elim
           (λ (k : x < cut). in-left x (w .freed) gone (t .were-freed .all x k (u .0)))
           (λ (k : cut ≤ x).
-          in-right x (w .freed) gone (took .freed-all x (t .waiting .all open-end x k (let z = took .master .ordered .cut-sent in omega arith) (u .0)) (u .1) h))
+          in-right x (w .freed) gone (took .freed-all x (t .waiting .all open-end x k (let z = took .master .cut-sent in omega arith) (u .0)) (u .1) h))
           (order x cut);
     };
     earned = s .earned;

@@ -1,5 +1,6 @@
--- Why the secondary never runs out of room or of numbers while both ends are joined: every packet from base on, and every one from the
--- first unreported loss on, waits at the master, which holds at most 512.
+-- Why the secondary never runs out of room or of numbers while both ends are joined: every packet from base on, every one from the
+-- first unreported loss on, and every one with a record waits at the master, which holds at most 512, and from any that waits on at most half
+-- the PDCP numbers were sent.
 -- Assumes nothing.
 use mathlib.Core.Path.{_≡_, sym, _∙_, ap}
 use mathlib.Core.Bool.{Bool, true, false}
@@ -19,16 +20,17 @@ use Rattle.bearer.specs.Ledger.{Entry, waits}
 use Rattle.bearer.specs.Rule.{isIn}
 use Rattle.bearer.specs.Packets.{In, Rising, Each, packets}
 use Rattle.bearer.specs.World.{World}
-use Rattle.bearer.specs.Account.{packetsFrom, Maximal}
+use Rattle.bearer.specs.Account.{Held, indexes, packetsFrom, Maximal}
 use Rattle.bearer.specs.LedgerMeaning.{waitingIn}
-use Rattle.bearer.proofs.Lists.Elements.{in-head, in-tail, in-cons, in-take, rising-head, rising-tail, in-none, not-in, front-below}
+use Rattle.bearer.proofs.Lists.Elements.{each-in, in-head, in-tail, in-cons, in-take, rising-head, rising-tail, in-none, not-in, front-below}
 use Rattle.bearer.proofs.Lists.Rows.{in-packets, rising-packets, length-packets}
 use Rattle.bearer.proofs.Lists.Lengths.{roomy}
 use Rattle.bearer.proofs.Secondary.Index.{froms}
 use Rattle.bearer.proofs.Secondary.Runs.{maximal-first}
+use Rattle.bearer.proofs.Secondary.Follows.{record-received}
 use Rattle.bearer.proofs.Master.Marks.{waitingOf}
 use Rattle.bearer.proofs.Master.Pdcps.{few}
-use Rattle.bearer.proofs.Master.Applied.{waiting-rising}
+use Rattle.bearer.proofs.Master.Frees.{waiting-rising}
 use Rattle.bearer.proofs.Joint.Flight.{flight-cut, flight-told, flight-closed}
 use Rattle.bearer.proofs.Joint.Joined.{Joint}
 
@@ -128,11 +130,16 @@ module _ {L first : ℕ} (ok : isLength L ≡ true) {w : World} (j : Joint L fir
       let b = length-packets x n in
       omega (arith, a, b)
 
-  -- fewer than half the numbers were sent from the secondary's cut on
-  pub sent-near : j .second .cut < length (w .sent) → length (w .sent) < j .second .cut + half L
-  sent-near h =
-      let r = roomy L ok in
-      let c = cut-there-first in
-      let f = few (r .some-pdcps) (j .there .master .ordered) (omega arith) in
-      let g = r .more-pdcps in
+  -- a packet with a record waits
+  pub waits-held : (x : ℕ) → In x (indexes (j .second .a .records)) → In x (waitingOf (w .ledger .entries))
+  waits-held x h =
+      let s = j .second in
+      let got = record-received (s .follows) x h in
+      waits-unlost x (each-in (λ (h : Held). h .index) (λ (i : ℕ). s .cut ≤ i) (s .a .records) (s .remembered .from-cut) x h) (s .were-sent .received x got) (s .follows .fates .not-both x got)
+
+  -- from one that waits on at most half the numbers were sent
+  pub sent-near : (x : ℕ) → In x (waitingOf (w .ledger .entries)) → length (w .sent) ≤ x + half L
+  sent-near x h =
+      let f = few (j .there .master .ordered) x h in
+      let g = roomy L ok .more-pdcps in
       omega arith

@@ -3,7 +3,7 @@
 use mathlib.Core.Path.{_≡_, refl, sym, subst}
 use mathlib.Core.Bool.{true}
 use mathlib.Core.Logic.{⊎-elim}
-use Prim.Native.Nat.{ℕ, suc, _+_, _/_, _≤_, _<_}
+use Prim.Native.Nat.{ℕ, suc, _+_, _-_, _/_, _^_, _≤_, _<_}
 use borrow.Author.Tests.{eqb-true}
 use lib.Dec.{eqb, lit<, lit≤}
 use Rattle.basics.specs.Basics.{_or_}
@@ -19,17 +19,22 @@ each-length P a b c L e =
     (λ p. ⊎-elim (λ q. subst P (sym (eqb-true L 15 q)) b) (λ q. subst P (sym (eqb-true L 18 q)) c) (or-true (eqb L 15) (eqb L 18) p))
     (or-true (eqb L 12) (eqb L 15 or eqb L 18) e)
 
+-- half of the PDCP numbers
+pub half-is : (L : ℕ) → isLength L ≡ true → pdcps L / 2 ≡ 2 ^ (L - 1)
+half-is = each-length (λ (L : ℕ). pdcps L / 2 ≡ 2 ^ (L - 1)) refl refl refl
+
 -- the numbers are even, half of them are more than a ledger or half the PDCP numbers, and a status bears every PDCP number
 pub record Roomy (L : ℕ) : Type 0 where
   pub halves : half L + half L ≡ modulusOf L
   pub more-entries : mostEntries ≤ half L
   pub more-pdcps : pdcps L / 2 ≤ half L
   pub some-pdcps : 0 < pdcps L
+  pub half-pdcps : 0 < pdcps L / 2
   pub bears-all : pdcps L ≤ suc (mostHighest (isLong L))
 
 pub roomy : (L : ℕ) → isLength L ≡ true → Roomy L
 roomy =
     each-length Roomy
-    (record { halves = refl; more-entries = lit≤ tt; more-pdcps = lit≤ tt; some-pdcps = lit< tt; bears-all = lit≤ tt })
-    (record { halves = refl; more-entries = lit≤ tt; more-pdcps = lit≤ tt; some-pdcps = lit< tt; bears-all = lit≤ tt })
-    (record { halves = refl; more-entries = lit≤ tt; more-pdcps = lit≤ tt; some-pdcps = lit< tt; bears-all = lit≤ tt })
+    (record { halves = refl; more-entries = lit≤ tt; more-pdcps = lit≤ tt; some-pdcps = lit< tt; half-pdcps = lit< tt; bears-all = lit≤ tt })
+    (record { halves = refl; more-entries = lit≤ tt; more-pdcps = lit≤ tt; some-pdcps = lit< tt; half-pdcps = lit< tt; bears-all = lit≤ tt })
+    (record { halves = refl; more-entries = lit≤ tt; more-pdcps = lit≤ tt; some-pdcps = lit< tt; half-pdcps = lit< tt; bears-all = lit≤ tt })

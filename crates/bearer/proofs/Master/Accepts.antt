@@ -23,12 +23,11 @@ use Rattle.bearer.specs.Packets.{packets, In, Each}
 use Rattle.bearer.specs.World.{without}
 use Rattle.bearer.specs.Account.{runAt, packetsOf}
 use Rattle.bearer.specs.LedgerMeaning.{TurnedLost, turned-end, turns, as-it-was}
-use Rattle.bearer.proofs.Lists.Lengths.{roomy}
 use Rattle.bearer.proofs.Master.Marks.{isNamed, Names, marked, waitingOf, waiting-held, mark-finds}
-use Rattle.bearer.proofs.Master.Pdcps.{pdcpOf, not-highest}
+use Rattle.bearer.proofs.Master.Pdcps.{pdcpOf}
 use Rattle.bearer.proofs.Master.Frees.{leftOver, Bears, frees, some-bears, marked-waits, marked-keeps, left-waits, left-keeps, left-out, goes-out, in-without, without-in}
-use Rattle.bearer.proofs.Master.Sound.{Master, in-step}
-use Rattle.bearer.proofs.Master.Applied.{waiting-sent, bears-one, packets-turned, entries-turned, master-stays, master-moves}
+use Rattle.bearer.proofs.Master.Sound.{Master, waiting-sent, oldestOf, in-step}
+use Rattle.bearer.proofs.Master.Applied.{bears-one, packets-turned, waited, entries-turned, master-stays, master-moves}
 
 alike-self : (b : Bool) → alike b b ≡ true
 alike-self true = refl
@@ -83,7 +82,7 @@ module _ {L first cut : ℕ} {sent : List ℕ} {l : Ledger ℕ} (ok : isLength L
   took-stays e =
       rw (eq-eqb (s .highest) (l .highest) e) (record {
         accepted = refl;
-        master = master-stays ok m s applied-turned e;
+        master = master-stays m s applied-turned e;
         closed-by = refl;
         highest-is = refl;
         waits-on = λ x p.
@@ -100,14 +99,13 @@ module _ {L first cut : ℕ} {sent : List ℕ} {l : Ledger ℕ} (ok : isLength L
   took-moves : (g : ℕ) → In g (waitingOf (l .entries)) → isIn g (packetsOf gs) ≡ false → s .highest ≡ pdcpOf sent g
       → Took L first (suc g) sent (packetsOf gs) l s (acceptMarked l s (some passed))
   took-moves g w out e =
-      let there = waiting-sent g (l .entries) (m .entries-are) w in
       let still : In g (waitingOf applied) = marked-keeps g (packetsOf gs) (l .entries) w out in
       let held = entries-turned applied-turned (m .entries-are) in
-      let bears : Each (Bears (s .highest) g) applied = rw e (bears-one ok m g (there .0) (there .1) applied held) in
-      let other : eqb (s .highest) (l .highest) ≡ false = ne-eqb (s .highest) (l .highest) (λ q. not-highest (roomy L ok .some-pdcps) (m .ordered) g (there .0) (there .1) (sym e ∙ q)) in
+      let bears : Each (Bears (s .highest) g) applied = rw e (bears-one m g w applied held (waited applied-turned)) in
+      let other : eqb (s .highest) (l .highest) ≡ false = ne-eqb (s .highest) (l .highest) (λ q. m .ordered .not-highest g w (sym e ∙ q)) in
       rw (other, some-bears (s .highest) g applied still bears, frees (s .highest) g applied (held .rising) still bears) (record {
         accepted = refl;
-        master = master-moves ok m s applied-turned g still e;
+        master = master-moves m s applied-turned g still e;
         closed-by = refl;
         highest-is = refl;
         waits-on = λ x p.
@@ -131,7 +129,7 @@ module _ {L first cut : ℕ} {sent : List ℕ} {l : Ledger ℕ} (ok : isLength L
   takes cut′ o open-end read form fits ranges h =
       let same : alike (s .long) (isLong (l .bits)) ≡ true = rw (form, m .bits-are) (alike-self (isLong L)) in
       let below : leb (pdcps (l .bits)) (s .highest) ≡ false = rw (m .bits-are) (lt-leb (pdcps L) (s .highest) fits) in
-      let finds : marking l s ≡ some passed = rw (m .bits-are, ranges) (mark-finds L first cut (l .entries) gs (in-step ok m) n) in
+      let finds : marking l s ≡ some passed = rw (m .bits-are, ranges) (mark-finds L first (oldestOf (waitingOf (l .entries))) (l .entries) gs (in-step ok m) n) in
       let is : accept l o ≡ acceptMarked l s (some passed) =
       otherwise _ _ open-end ∙ ap (acceptReading l) read ∙ otherwise _ _ (ap not same) ∙ otherwise _ _ below
       ∙ ap (acceptMarked l s) finds

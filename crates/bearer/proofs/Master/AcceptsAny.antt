@@ -12,19 +12,18 @@ use lib.Dec.{leb, eqb}
 use lib.ListN.{length}
 use Rattle.basics.specs.Basics.{_and_, _or_, alike, done}
 use Rattle.basics.proofs.Choices.{tested, contrary, and-true, done-one, otherwise, or-true}
-use Rattle.circle.specs.Lengths.{isLength, isLong, pdcps}
+use Rattle.circle.specs.Lengths.{isLong, pdcps}
 use Rattle.frame_layout.specs.Frames.{Status, Reading, data-of, status-of, refuse, readFrame}
 use Rattle.bearer.specs.Ledger.{Entry, Ledger, Passed, Accepted, waits, markLost, waitsFor, freeThrough, freed, acceptedState, acceptMarked, acceptReading, accept}
 use Rattle.bearer.specs.Packets.{In, Each}
 use Rattle.bearer.specs.LedgerMeaning.{TurnedLost, FreedThrough, freed-end, goes, later, is-lost, FreedBy, frees-none, frees-through}
 use Rattle.bearer.proofs.Lists.Mapped.{each-so}
-use Rattle.bearer.proofs.Lists.Lengths.{roomy}
 use Rattle.bearer.proofs.Answers.Accepted.{same-state, not-refused}
 use Rattle.bearer.proofs.Master.Marks.{waitingOf}
-use Rattle.bearer.proofs.Master.Pdcps.{pdcpOf, not-highest}
+use Rattle.bearer.proofs.Master.Pdcps.{pdcpOf}
 use Rattle.bearer.proofs.Master.Frees.{leftOver, Bears, frees, waiting-first, waiting-rest}
 use Rattle.bearer.proofs.Master.Sound.{Entries, Master}
-use Rattle.bearer.proofs.Master.Applied.{waiting-sent, bears-one, entries-turned, master-stays, master-moves}
+use Rattle.bearer.proofs.Master.Applied.{bears-one, waited, entries-turned, master-stays, master-moves}
 
 -- what an accepted status has passed
 pub record Passes (l : Ledger ℕ) (o : List ℕ) (a : Accepted) : Type 0 where
@@ -114,9 +113,9 @@ pub record Frees (L first : ℕ) (sent : List ℕ) (l : Ledger ℕ) (s : Status)
   pub master : Master L first cut sent (acceptedState l s (freed l (s .highest) es .entries))
   pub freed-by : FreedBy sent (l .highest) (s .highest) es (freed l (s .highest) es .entries)
 
-pub frees-by : {L first cut : ℕ} {sent : List ℕ} {l : Ledger ℕ} → isLength L ≡ true → Master L first cut sent l → (s : Status) {ns : List ℕ} {es : List (Entry ℕ)} → TurnedLost ns (l .entries) es
+pub frees-by : {L first cut : ℕ} {sent : List ℕ} {l : Ledger ℕ} → Master L first cut sent l → (s : Status) {ns : List ℕ} {es : List (Entry ℕ)} → TurnedLost ns (l .entries) es
     → eqb (s .highest) (l .highest) or waitsFor (s .highest) es ≡ true → Frees L first sent l s es
-frees-by {L} {first} {cut} {sent} {l} ok m s {ns} {es} t named =
+frees-by {L} {first} {cut} {sent} {l} m s {ns} {es} t named =
     ⊎-elim same (λ q. let w = waiter sent (s .highest) es (each-so es (λ e k. k .pdcp-is) (held .sent-as)) q in moved (w .packet) (w .waiting) (w .pdcp-is))
     (or-true (eqb (s .highest) (l .highest)) (waitsFor (s .highest) es) named)
   where
@@ -126,16 +125,15 @@ frees-by {L} {first} {cut} {sent} {l} ok m s {ns} {es} t named =
     same : eqb (s .highest) (l .highest) ≡ true → Frees L first sent l s es
     same b =
         let e : s .highest ≡ l .highest = eqb-true (s .highest) (l .highest) b in
-        record { cut = cut; master = rw b (master-stays ok m s t e); freed-by = rw b (frees-none e refl) }
+        record { cut = cut; master = rw b (master-stays m s t e); freed-by = rw b (frees-none e refl) }
 
     moved : (g : ℕ) → In g (waitingOf es) → s .highest ≡ pdcpOf sent g → Frees L first sent l s es
     moved g w e =
-        let there = waiting-sent g es held w in
-        let bears : Each (Bears (s .highest) g) es = rw e (bears-one ok m g (there .0) (there .1) es held) in
-        let other : eqb (s .highest) (l .highest) ≡ false = ne-eqb (s .highest) (l .highest) (λ q. not-highest (roomy L ok .some-pdcps) (m .ordered) g (there .0) (there .1) (sym e ∙ q)) in
+        let bears : Each (Bears (s .highest) g) es = rw e (bears-one m g (waited t g w) es held (waited t)) in
+        let other : eqb (s .highest) (l .highest) ≡ false = ne-eqb (s .highest) (l .highest) (λ q. m .ordered .not-highest g (waited t g w) (sym e ∙ q)) in
         let left : freed l (s .highest) es .entries ≡ leftOver g es = rw other (frees (s .highest) g es (held .rising) w bears) in
         record {
           cut = suc g;
-          master = rw left (master-moves ok m s t g w e);
+          master = rw left (master-moves m s t g w e);
           freed-by = rw left (frees-through g w e (left-through g es));
         }

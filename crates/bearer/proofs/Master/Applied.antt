@@ -15,18 +15,18 @@ use Rattle.basics.specs.Basics.{if_then_else_, _and_}
 use Rattle.basics.proofs.Choices.{contrary}
 use Rattle.circle.specs.Lengths.{isLength, modulusOf}
 use Rattle.frame_layout.specs.Frames.{Range, Status}
-use Rattle.bearer.specs.Ledger.{Entry, Ledger, Passed, freshLedger, waits, asLost, markLost, acceptedState}
-use Rattle.bearer.specs.Packets.{packets, Rising, In, Each}
-use Rattle.bearer.specs.LedgerMeaning.{TurnedLost, turned-end, turns, as-it-was, waitingIn}
-use Rattle.bearer.proofs.Lists.Elements.{in-head, rising-head, rising-tail, rising-cons, in-none}
-use Rattle.bearer.proofs.Lists.Mapped.{each-so}
+use Rattle.bearer.specs.Ledger.{Entry, Ledger, Passed, freshLedger, waits, waitingAt, asLost, markLost, acceptedState}
+use Rattle.bearer.specs.Packets.{packets, In, Each}
+use Rattle.bearer.specs.LedgerMeaning.{TurnedLost, turned-end, turns, as-it-was}
+use Rattle.bearer.proofs.Lists.Elements.{in-none}
+use Rattle.bearer.proofs.Lists.Mapped.{each-so, each-both}
 use Rattle.bearer.proofs.Lists.Numbers.{first-number, positive}
-use Rattle.bearer.proofs.Lists.Lengths.{roomy}
-use Rattle.bearer.proofs.Master.Marks.{waitingOf, waiting-cases, waiting-held}
-use Rattle.bearer.proofs.Master.Pdcps.{pdcpOf, one-pdcp, moves}
-use Rattle.bearer.proofs.Master.Frees.{leftOver, Bears, each-left, left-rising, left-waits, waiting-rest}
+use Rattle.bearer.proofs.Master.Marks.{waitingOf, waiting-cases}
+use Rattle.bearer.proofs.Master.Pdcps.{pdcpOf, one-pdcp, fewer, moves}
+use Rattle.bearer.proofs.Master.Frees.{leftOver, Bears, each-left, left-rising, left-waits, waiting-first, waiting-rest, each-waiting}
+use Rattle.bearer.proofs.Master.Oldest.{found-from, oldest-turned, oldest-left}
 use Rattle.bearer.proofs.Master.Turned.{Turns, turns-lost}
-use Rattle.bearer.proofs.Master.Sound.{Entries, entries-fewer, entries-rest, Master}
+use Rattle.bearer.proofs.Master.Sound.{Entries, entries-fewer, waiting-sent, Master}
 
 -- a fresh ledger is sound
 pub master-opened : (L first f : ℕ) → isLength L ≡ true → first < modulusOf L
@@ -34,46 +34,29 @@ pub master-opened : (L first f : ℕ) → isLength L ≡ true → first < modulu
 master-opened L first f ok small = record {
   bits-are = refl;
   next-is = first-number L first small;
+  cut-sent = omega arith;
+  oldest-is = refl;
   entries-are = record { rising = tt; sent-as = tt; from-cut = tt; most = omega arith };
   ordered = record {
     below = λ i l. absurd (omega arith);
-    up = λ i j a b l. absurd (omega arith);
-    past = λ i a l. absurd (omega arith);
-    cut-sent = omega arith;
+    up = λ o i j w a b l. absurd (omega arith);
+    near = λ o i w a l. absurd (omega arith);
+    not-highest = λ o w. absurd (in-none w);
     last-is = λ l. absurd (omega arith);
-    last-near = λ l. absurd (omega arith);
   };
 }
 
 -- ---- what waits
 
--- what waits is in sending order
-pub waiting-rising : (es : List (Entry ℕ)) → Rising (packets es) → Rising (waitingOf es)
-waiting-rising [] r = tt
-waiting-rising (e ∷ es) r = go (waits e) (waiting-rising es (rising-tail (e .label) (packets es) r))
+-- of entries that waited only that of packet g bears its PDCP number
+pub bears-one : {L first cut : ℕ} {sent : List ℕ} {l : Ledger ℕ} → Master L first cut sent l → (g : ℕ) → In g (waitingOf (l .entries))
+    → (es : List (Entry ℕ)) → Entries L first cut sent es → ((x : ℕ) → In x (waitingOf es) → In x (waitingOf (l .entries))) → Each (Bears (pdcpOf sent g) g) es
+bears-one {sent = sent} {l} m g h es s f =
+    each-so es (λ e b w. ((λ q. b .1 w (sym (b .0 .pdcp-is) ∙ q)), (λ q. b .0 .pdcp-is ∙ ap (pdcpOf sent) q)))
+    (each-both _ _ es (s .sent-as) (each-waiting (λ (e : Entry ℕ). pdcpOf sent (e .label) ≡ pdcpOf sent g → e .label ≡ g) es (λ e w p. one (e .label) (f (e .label) p))))
   where
-    go : (b : Bool) → Rising (waitingOf es) → Rising (packets (if b then e ∷ waitingIn es else waitingIn es))
-    go true s = rising-cons (e .label) (waitingOf es) (λ y h. rising-head (e .label) (packets es) r y (waiting-held y es h)) s
-    go false s = s
-
--- what waits was sent, past the highest last accepted
-pub waiting-sent : {L first cut : ℕ} {sent : List ℕ} (x : ℕ) (es : List (Entry ℕ)) → Entries L first cut sent es → In x (waitingOf es) → (cut ≤ x) × (x < length sent)
-waiting-sent x [] s h = absurd (in-none h)
-waiting-sent x (e ∷ es) s h =
-    ⊎-elim (λ w. (rw (w .1) (s .from-cut .0 (w .0)), rw (w .1) (s .sent-as .0 .was-sent))) (waiting-sent x es (entries-rest s)) (waiting-cases x e es h)
-
--- of waiting entries only that of packet g bears its PDCP number
-pub bears-one : {L first cut : ℕ} {sent : List ℕ} {l : Ledger ℕ} → isLength L ≡ true → Master L first cut sent l → (g : ℕ) → cut ≤ g → g < length sent
-    → (es : List (Entry ℕ)) → Entries L first cut sent es → Each (Bears (pdcpOf sent g) g) es
-bears-one ok m g h k [] s = tt
-bears-one {L} {sent = sent} ok m g h k (e ∷ es) s =
-    let here = s .sent-as .0 in (
-      (λ w. (
-        (λ q. one-pdcp (roomy L ok .some-pdcps) (m .ordered) (e .label) g (s .from-cut .0 w) h (here .was-sent) k (sym (here .pdcp-is) ∙ q)),
-        (λ q. here .pdcp-is ∙ ap (pdcpOf sent) q),
-      )),
-      bears-one ok m g h k es (entries-rest s),
-    )
+    one : (x : ℕ) → In x (waitingOf (l .entries)) → pdcpOf sent x ≡ pdcpOf sent g → x ≡ g
+    one x p = one-pdcp (m .ordered) x g p h (waiting-sent x (l .entries) (m .entries-are) p .1) (waiting-sent g (l .entries) (m .entries-are) h .1)
 
 -- ---- entries turned lost
 
@@ -92,6 +75,12 @@ pub length-turned : {ns : List ℕ} {es ds : List (Entry ℕ)} → TurnedLost ns
 length-turned turned-end = refl
 length-turned (turns e w t) = ap suc (length-turned t)
 length-turned (as-it-was e t) = ap suc (length-turned t)
+
+-- who waits then had waited
+pub waited : {ns : List ℕ} {es ds : List (Entry ℕ)} → TurnedLost ns es ds → (x : ℕ) → In x (waitingOf ds) → In x (waitingOf es)
+waited turned-end x h = h
+waited (turns {es = es} e w t) x h = waiting-rest x e es (waited t x h)
+waited (as-it-was {es = es} {ds = ds} e t) x h = ⊎-elim (λ w. rw (w .1) (waiting-first e es (w .0))) (λ p. waiting-rest x e es (waited t x p)) (waiting-cases x e ds h)
 
 -- the pass over any ranges does so to a sound ledger's entries
 pub master-turns : {L first cut : ℕ} {sent : List ℕ} {l : Ledger ℕ} → Master L first cut sent l → (rs : List Range) (p : Passed ℕ)
@@ -113,11 +102,6 @@ entries-turned t s = record {
 
 -- ---- entries freed
 
--- a fact of every entry, by packets that wait
-each-waiting : (P : Entry ℕ → Type 0) (es : List (Entry ℕ)) → ((e : Entry ℕ) → waits e ≡ true → In (e .label) (waitingOf es) → P e) → Each (λ (e : Entry ℕ). waits e ≡ true → P e) es
-each-waiting P [] f = tt
-each-waiting P (e ∷ es) f = ((λ w. f e w (rw w (in-head (e .label) (waitingOf es)))), each-waiting P es (λ d w p. f d w (waiting-rest (d .label) e es p)))
-
 length-left : (g : ℕ) (es : List (Entry ℕ)) → length (leftOver g es) ≤ length es
 length-left g [] = omega arith
 length-left g (e ∷ es) = go (waits e and leb (e .label) g) (length-left g es)
@@ -133,24 +117,31 @@ entries-left g es s =
 
 -- ---- the ledger after both
 
-module _ {L first cut : ℕ} {sent : List ℕ} {l : Ledger ℕ} (ok : isLength L ≡ true) (m : Master L first cut sent l) (s : Status) {ns : List ℕ} {ds : List (Entry ℕ)} (t : TurnedLost ns (l .entries) ds) where
+module _ {L first cut : ℕ} {sent : List ℕ} {l : Ledger ℕ} (m : Master L first cut sent l) (s : Status) {ns : List ℕ} {ds : List (Entry ℕ)} (t : TurnedLost ns (l .entries) ds) where
+  -- the oldest waiting entry is found from where it stood, in what is left of those turned
+  oldest-after : (es : List (Entry ℕ)) → waitingAt ds ≤ waitingAt es → acceptedState l s es .oldest ≡ waitingAt es
+  oldest-after es h = let was = m .oldest-is in let on = oldest-turned t in found-from (l .oldest) es (omega arith)
+
   -- the highest stays: nothing is freed
   pub master-stays : s .highest ≡ l .highest → Master L first cut sent (acceptedState l s ds)
   master-stays e = record {
     bits-are = m .bits-are;
     next-is = m .next-is;
+    cut-sent = m .cut-sent;
+    oldest-is = oldest-after ds (omega arith);
     entries-are = entries-turned t (m .entries-are);
-    ordered = rw (← e) at (m .ordered);
+    ordered = rw e (fewer (m .ordered) {ws′ = waitingOf ds} (waited t));
   }
 
   -- the highest moves to packet g: what waits through g is freed
   pub master-moves : (g : ℕ) → In g (waitingOf ds) → s .highest ≡ pdcpOf sent g → Master L first (suc g) sent (acceptedState l s (leftOver g ds))
   master-moves g w e =
       let held = entries-turned t (m .entries-are) in
-      let there = waiting-sent g ds held w in
       record {
         bits-are = m .bits-are;
         next-is = m .next-is;
+        cut-sent = waiting-sent g ds held w .1;
+        oldest-is = oldest-after (leftOver g ds) (oldest-left g ds);
         entries-are = entries-left g ds held;
-        ordered = rw e (moves (roomy L ok .some-pdcps) (m .ordered) g (there .0) (there .1));
+        ordered = rw e (moves (m .ordered) g (waited t g w) (λ x p. let q = left-waits x g ds p in (waited t x (q .0), q .1, waiting-sent x ds held (q .0) .1)));
       }

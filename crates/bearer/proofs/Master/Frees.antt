@@ -114,6 +114,20 @@ waiting-rest x e es h = go (waits e)
     go true = in-tail x (e .label) (waitingOf es) h
     go false = h
 
+-- what waits is in sending order
+pub waiting-rising : (es : List (Entry ℕ)) → Rising (packets es) → Rising (waitingOf es)
+waiting-rising [] r = tt
+waiting-rising (e ∷ es) r = go (waits e) (waiting-rising es (rising-tail (e .label) (packets es) r))
+  where
+    go : (b : Bool) → Rising (waitingOf es) → Rising (packets (if b then e ∷ waitingIn es else waitingIn es))
+    go true s = rising-cons (e .label) (waitingOf es) (λ y h. rising-head (e .label) (packets es) r y (waiting-held y es h)) s
+    go false s = s
+
+-- a fact of every entry, by packets that wait
+pub each-waiting : (P : Entry ℕ → Type 0) (es : List (Entry ℕ)) → ((e : Entry ℕ) → waits e ≡ true → In (e .label) (waitingOf es) → P e) → Each (λ (e : Entry ℕ). waits e ≡ true → P e) es
+each-waiting P [] f = tt
+each-waiting P (e ∷ es) f = ((λ w. f e w (waiting-first e es w)), each-waiting P es (λ d w p. f d w (waiting-rest (d .label) e es p)))
+
 -- after the marking wait those who waited and were not named
 pub marked-waits : (x : ℕ) (xs : List ℕ) (es : List (Entry ℕ)) → In x (waitingOf (marked xs es)) → In x (waitingOf es) × (isIn x xs ≡ false)
 marked-waits x xs [] p = absurd (in-none p)

@@ -5,16 +5,16 @@ use mathlib.Core.Path.{_≡_, refl, sym, _∙_, ap}
 use mathlib.Core.Bool.{Bool, true, false, not}
 use mathlib.Core.List.{List, [], _∷_, _++_}
 use mathlib.Core.Logic.{inl, inr}
-use Prim.Native.Nat.{ℕ, suc, _+_, _-_, _/_, _^_, _≤_, _<_}
+use Prim.Native.Nat.{ℕ, suc, _+_, _^_, _≤_, _<_}
 use native.Mathlib.Omega.{arith}
 use borrow.Author.Tests.{ltb-true, not-false}
-use lib.Dec.{ltb, leb}
+use lib.Dec.{ltb, leb, eqb}
 use lib.ListN.{length, take, drop, length-map}
 use Rattle.basics.specs.Basics.{if_then_else_, _or_, alike, refused, isDone}
 use Rattle.basics.specs.Refusals.{Refusal, _when_, Given}
 use Rattle.basics.proofs.Choices.{contrary, and-true, never-done}
-use Rattle.basics.proofs.Refusals.{Says, says-below, says-at-most, says-holds, says-and, says-not, says-as, says-past, given-of, given-append, refused-alike}
-use Rattle.circle.specs.Lengths.{isLength, isLong, modulusOf, pdcps}
+use Rattle.basics.proofs.Refusals.{Says, says-below, says-same, says-at-most, says-holds, says-and, says-not, says-as, says-past, given-of, given-append, refused-alike}
+use Rattle.circle.specs.Lengths.{isLong, modulusOf, pdcps}
 use Rattle.frame_layout.specs.Frames.{Range, Status, width, statusType, typeIn, inForm, listAt, countIn, statusIn, Reading, data-of, status-of, refuse, readFrame}
 use Rattle.frame_layout.specs.Refusals.{readRefusals, answered}
 use Rattle.frame_layout.specs.Trips.{AreOctets, Frame, data-frame, status-frame, readingOf}
@@ -23,21 +23,18 @@ use Rattle.frame_layout.proofs.Octets.{rangesAt-inForm}
 use Rattle.frame_layout.proofs.Read.{Read, as-data, as-status, frame-read}
 use Rattle.frame_layout.proofs.Refusals.{reads-given}
 use Rattle.bearer.specs.Bearer.{mostEntries}
-use Rattle.bearer.specs.Ledger.{Entry, Ledger, waits, inOrder, send, markLost, acceptReading, accept, takeAt, takeFrom, takeOldest}
+use Rattle.bearer.specs.Ledger.{Entry, Ledger, waits, follows, inOrder, send, markLost, acceptReading, accept, takeAt, takeFrom, takeOldest}
 use Rattle.bearer.specs.Packets.{packets, Each}
 use Rattle.bearer.specs.LedgerMeaning.{Books, LedgerReached, waitingIn, lostIn}
-use Rattle.bearer.specs.Refusals.{OutOfOrder, sendRefusals, acceptRefusals, takeRefusals, MasterGiven}
+use Rattle.bearer.specs.Refusals.{FollowsOldest, OutOfOrder, sendRefusals, acceptRefusals, takeRefusals, MasterGiven}
 use Rattle.bearer.proofs.Lists.Mapped.{each-so, each-of-all}
-use Rattle.bearer.proofs.Lists.Lengths.{each-length}
+use Rattle.bearer.proofs.Lists.Lengths.{half-is}
 use Rattle.bearer.proofs.Master.Marks.{waitingOf}
+use Rattle.bearer.proofs.Master.Sound.{Oldest, none-waits, oldest-waits, the-oldest}
 use Rattle.bearer.proofs.Master.LedgerMeans.{sound, counts-sum}
 use Rattle.bearer.proofs.Master.GivenMarks.{answerOf, from33, marks-given}
 
 -- ---- the tests say the sentences
-
--- half of the PDCP numbers
-half-is : (L : ℕ) → isLength L ≡ true → pdcps L / 2 ≡ 2 ^ (L - 1)
-half-is = each-length (λ (L : ℕ). pdcps L / 2 ≡ 2 ^ (L - 1)) refl refl refl
 
 -- a type is that of a status of one form
 type-says : (a b : Bool) → Says (alike a b) (statusType a ≡ statusType b)
@@ -62,10 +59,18 @@ module _ {L first f : ℕ} {l : Ledger ℕ} {b : Books} (x : LedgerReached L fir
   number-says p = rw (sound x .master .bits-are) (says-past p (pdcps L))
 
   -- 35
-  order-says : (p : ℕ) → Says (not (inOrder l p)) (OutOfOrder L f b p)
+  order-says : (p : ℕ) → Says (not (inOrder l p)) (OutOfOrder L f b (waitingOf (l .entries)) p)
   order-says p =
       let s = sound x in
-      rw (s .master .bits-are, s .figures .highest-is, s .figures .last-is, half-is L (s .ok)) (says-not (says-and (says-below _ _) (says-below _ _)))
+      let differs : Says (not (eqb p (l .highest))) (p ≡ b .highest → ⊥) = rw (s .figures .highest-is) (says-not (says-same p (b .highest))) in
+      says-not (says-and differs (from-oldest (drop (l .oldest) (l .entries)) (waitingOf (l .entries)) (the-oldest (s .master))))
+    where
+      -- with entries waiting the test is that of the oldest; with none it is none
+      from-oldest : (ds : List (Entry ℕ)) (ws : List ℕ) → Oldest (b .sent) ds ws → Says (follows l p ds) (FollowsOldest L f b ws p)
+      from-oldest ds ws none-waits = record { there = λ t. tt; back = λ t. refl }
+      from-oldest ds ws (oldest-waits e es is pdcp-is) =
+          let s = sound x in
+          rw (s .master .bits-are, s .figures .last-is, half-is L (s .ok), pdcp-is) (says-and (says-below _ _) (says-below _ _))
 
   -- 36
   full-says : Says (leb mostEntries (length (l .entries))) (512 ≤ length (waitingOf (l .entries)) + length (packets (lostIn (l .entries))))
@@ -83,7 +88,7 @@ module _ {L first f : ℕ} {l : Ledger ℕ} {b : Books} (x : LedgerReached L fir
     from36 = (36 when (512 ≤ length (waitingOf (l .entries)) + length (packets (lostIn (l .entries))))) ∷ []
 
     abbrev from35 : List Refusal
-    from35 = (35 when OutOfOrder L f b p) ∷ from36
+    from35 = (35 when OutOfOrder L f b (waitingOf (l .entries)) p) ∷ from36
 
     abbrev from10 : List Refusal
     from10 = (10 when (2 ^ L ≤ p)) ∷ from35

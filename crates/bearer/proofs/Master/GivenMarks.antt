@@ -27,8 +27,8 @@ use Rattle.bearer.proofs.Lists.Elements.{in-cons, in-map, not-in, not-i
 use Rattle.bearer.proofs.Lists.Mapped.{each-so}
 use Rattle.bearer.proofs.Master.Marks.{waitingOf, marked, waiting-held, InStep, instep-rest, Picked, passed, pass-finds}
 use Rattle.bearer.proofs.Master.Frees.{some-bears, waiting-first, waiting-rest, marked-waits, marked-keeps}
-use Rattle.bearer.proofs.Master.Sound.{Entries, in-step}
-use Rattle.bearer.proofs.Master.Applied.{master-turns, entries-turned, waiting-sent, bears-one}
+use Rattle.bearer.proofs.Master.Sound.{Entries, oldestOf, in-step}
+use Rattle.bearer.proofs.Master.Applied.{master-turns, entries-turned, waited, bears-one}
 use Rattle.bearer.proofs.Master.Accepts.{marked-turned}
 use Rattle.bearer.proofs.Master.AcceptsAny.{waiter}
 use Rattle.bearer.proofs.Master.LedgerMeans.{sound, ledgers-mean}
@@ -80,7 +80,7 @@ module _ {L first f : ℕ} {l : Ledger ℕ} {b : Books} (x : LedgerReached L fir
       → markLost (l .bits) (l .entries) (s .ranges) ≡ some (passed is (l .entries))
   finds-picked is p q =
       let y = sound x in
-      rw (y .master .bits-are) (pass-finds L first (y .cut) (l .entries) (s .ranges) is (in-step (y .ok) (y .master)) p ends q)
+      rw (y .master .bits-are) (pass-finds L first (oldestOf (waitingOf (l .entries))) (l .entries) (s .ranges) is (in-step (y .ok) (y .master)) p ends q)
 
   -- where the pass finds none, none rise: 33
   none-rise : markLost (l .bits) (l .entries) (s .ranges) ≡ none → NotRising L first (waitingOf (l .entries)) s
@@ -111,10 +111,9 @@ module _ {L first f : ℕ} {l : Ledger ℕ} {b : Books} (x : LedgerReached L fir
     still-waits : Left → waitsFor (s .highest) applied ≡ true
     still-waits n =
         let y = sound x in
-        let there = waiting-sent (n .packet) (l .entries) (y .master .entries-are) (n .waits-yet) in
         let unnamed = not-in (n .packet) (r .packets-are) (λ h. n .out (rw (r .numbers-are) at (in-map (numberOf L first) (n .packet) (r .packets-are) h))) in
         some-bears (s .highest) (n .packet) applied (marked-keeps (n .packet) (r .packets-are) (l .entries) (n .waits-yet) unnamed)
-        (rw (← n .pdcp-is) (bears-one (y .ok) (y .master) (n .packet) (there .0) (there .1) applied held))
+        (rw (← n .pdcp-is) (bears-one (y .master) (n .packet) (n .waits-yet) applied held (waited (marked-turned (r .packets-are) (l .entries)))))
 
     -- and who waits still is such
     was-left : waitsFor (s .highest) applied ≡ true → Left

@@ -5,16 +5,16 @@ use mathlib.Core.Path.{_≡_, refl, sym, _∙_, ap}
 use mathlib.Core.Bool.{Bool, true, false, not}
 use mathlib.Core.List.{List, [], _∷_, _++_, map}
 use mathlib.Core.Option.{Option, none, some}
-use Prim.Native.Nat.{ℕ, suc}
+use Prim.Native.Nat.{ℕ, suc, _+_}
 use lib.Dec.{ltb, leb, eqb}
-use lib.ListN.{take, drop, length-map}
+use lib.ListN.{length, take, drop, length-map}
 use Rattle.basics.specs.Basics.{if_then_else_, _and_, _or_, alike}
 use Rattle.basics.proofs.Choices.{choice}
 use Rattle.basics.proofs.Lists.{map-take, map-drop}
 use Rattle.circle.specs.Lengths.{isLong, pdcps}
 use Rattle.frame_layout.specs.Frames.{Range, Status, Reading, data-of, status-of, refuse, readFrame}
 use Rattle.bearer.specs.Bearer.{After, answering, mostEntries}
-use Rattle.bearer.specs.Ledger.{Entry, Ledger, _with-entries_, newEntry, countsOf, acceptedState, takenOf, Passed, waits, bears, noteIn, afterNumber, markLost, waitsFor, kept, counted, freeThrough, freed, inOrder, send, sentState, acceptMarked, acceptReading, accept, takeAt, takeFrom, takeOldest}
+use Rattle.bearer.specs.Ledger.{Entry, Ledger, _with-highest_, _with-closed_, _with-sizes-of_, _with-oldest_, _with-entries_, waitingAt, holding, follows, placeWithout, newEntry, countsOf, acceptedState, takenOf, Passed, waits, bears, noteIn, afterNumber, markLost, waitsFor, kept, counted, freeThrough, freed, inOrder, send, sentState, acceptMarked, acceptReading, accept, takeAt, takeFrom, takeOldest}
 
 module _ {A B : Type 0} (f : A → B) where
   -- an entry, a ledger, a pass and a call's outcome under other labels
@@ -43,13 +43,34 @@ module _ {A B : Type 0} (f : A → B) where
 
   -- ---- send
 
+  -- the oldest of entries is judged by its PDCP number
+  follows-as : (l : Ledger A) (p : ℕ) (es : List (Entry A)) → follows (relabelled l) p (entriesAs es) ≡ follows l p es
+  follows-as l p [] = refl
+  follows-as l p (e ∷ es) = refl
+
+  -- so the PDCP order is the same
+  order-as : (l : Ledger A) (p : ℕ) → inOrder (relabelled l) p ≡ inOrder l p
+  order-as l p =
+      ap (λ (b : Bool). not (eqb p (l .highest)) and b)
+      (ap (follows (relabelled l) p) (map-drop entryAs (l .oldest) (l .entries)) ∙ follows-as l p (drop (l .oldest) (l .entries)))
+
   pub send-as : (l : Ledger A) (p : ℕ) (a : A) → send (relabelled l) p (f a) ≡ outcomeAs (send l p a)
   send-as l p a =
       choice outcomeAs {t = l .closed} refl refl
       (choice outcomeAs {t = not (ltb p (pdcps (l .bits)))} refl refl
-      (choice outcomeAs {t = not (inOrder l p)} refl refl
+      (choice outcomeAs (ap not (order-as l p)) refl
       (choice outcomeAs (ap (leb mostEntries) (length-map (l .entries) entryAs)) refl
       (ap (λ (es : List (Entry B)). answering (l .next) (sentState l p a with-entries es)) (sym (entries-append (l .entries) (newEntry (l .next) p a ∷ [])))))))
+
+  -- ---- where the oldest waiting entry stands
+
+  waiting-at-as : (es : List (Entry A)) → waitingAt (entriesAs es) ≡ waitingAt es
+  waiting-at-as [] = refl
+  waiting-at-as (e ∷ es) = ap (λ (n : ℕ). if waits e then 0 else suc n) (waiting-at-as es)
+
+  holding-as : (l : Ledger A) (n : ℕ) (es : List (Entry A)) → holding (relabelled l) n (entriesAs es) ≡ relabelled (holding l n es)
+  holding-as l n es =
+      ap (λ (k : ℕ). l with-oldest n + k with-entries entriesAs es) (ap waitingAt (map-drop entryAs n es) ∙ waiting-at-as (drop n es))
 
   -- ---- accepting
 
@@ -83,7 +104,9 @@ module _ {A B : Type 0} (f : A → B) where
   accept-marked-as l s (some m) =
       choice outcomeAs (ap (λ (b : Bool). not (eqb (s .highest) (l .highest) or b)) (waits-for-as (s .highest) (m .entries))) refl
       (ap (λ (p : Passed B). answering (countsOf s (p .count) (m .count)) (acceptedState (relabelled l) s (p .entries)))
-      (freed-as l (s .highest) (m .entries)))
+      (freed-as l (s .highest) (m .entries))
+      ∙ ap (answering (countsOf s (freed l (s .highest) (m .entries) .count) (m .count)))
+      (holding-as (l with-highest s .highest with-closed s .final with-sizes-of s) (l .oldest) (freed l (s .highest) (m .entries) .entries)))
 
   accept-reading-as : (l : Ledger A) (r : Reading) → acceptReading (relabelled l) r ≡ outcomeAs (acceptReading l r)
   accept-reading-as l (data-of long n) = refl
@@ -105,7 +128,9 @@ module _ {A B : Type 0} (f : A → B) where
   take-from-as : (l : Ledger A) (xs ys : List (Entry A)) → takeFrom (relabelled l) (entriesAs xs) (entriesAs ys) ≡ outcomeAs (takeFrom l xs ys)
   take-from-as l xs [] = refl
   take-from-as l xs (e ∷ es) =
-      ap (λ (ds : List (Entry B)). answering (takenOf e) (l with-entries ds)) (sym (entries-append xs es))
+      ap (λ (n : ℕ). answering (takenOf e) (holding (relabelled l) (placeWithout n (l .oldest)) (entriesAs xs ++ entriesAs es))) (length-map xs entryAs)
+      ∙ ap (λ (ds : List (Entry B)). answering (takenOf e) (holding (relabelled l) (placeWithout (length xs) (l .oldest)) ds)) (sym (entries-append xs es))
+      ∙ ap (answering (takenOf e)) (holding-as l (placeWithout (length xs) (l .oldest)) (xs ++ es))
 
   pub take-as : (l : Ledger A) → takeOldest (relabelled l) ≡ outcomeAs (takeOldest l)
   take-as l =

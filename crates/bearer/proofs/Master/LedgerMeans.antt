@@ -5,7 +5,7 @@ use mathlib.Core.Path.{_≡_, refl, sym, _∙_, ap}
 use mathlib.Core.Bool.{Bool, true, false, not}
 use mathlib.Core.List.{List, [], _∷_, _++_, map}
 use mathlib.Core.Logic.{_⊎_, inl, inr, ⊎-elim}
-use Prim.Native.Nat.{ℕ, suc, _+_, _-_, _/_, _≤_, _<_}
+use Prim.Native.Nat.{ℕ, suc, _+_, _-_, _^_, _≤_, _<_}
 use native.Mathlib.Omega.{arith}
 use borrow.Author.Tests.{not-false}
 use lib.Dec.{leb, ltb}
@@ -16,18 +16,22 @@ use Rattle.circle.specs.Circle.{forward}
 use Rattle.circle.specs.Lengths.{isLength, modulusOf, pdcps, pdcpBefore}
 use Rattle.frame_layout.specs.Frames.{Status, status-of, readFrame}
 use Rattle.bearer.specs.Bearer.{mostEntries}
-use Rattle.bearer.specs.Ledger.{newEntry, Entry, Ledger, _with-entries_, Accepted, Taken, takenOf, waits, freshLedger, openLedger, inOrder, send, sentState, accept, takeFrom, takeOldest, takeAt}
+use Rattle.bearer.specs.Ledger.{newEntry, Entry, Ledger, holding, Accepted, Taken, takenOf, waits, freshLedger, openLedger, inOrder, send, sentState, accept, takeFrom, takeOldest, takeAt}
 use Rattle.bearer.specs.Packets.{lastOf, packets, Rising, In, Each}
-use Rattle.bearer.specs.LedgerMeaning.{Books, begun, sending, accepting, taking, lastSent, LedgerReached, opened as opens, sends, accepts, takes, waitingIn, lostIn, pastHighest, StatusMeans, TakenFrom, this-one, passes-over, LedgersMean, SendsMean, TakesMean, StatusesMean}
-use Rattle.bearer.proofs.Lists.Mapped.{each-so}
+use Rattle.bearer.specs.LedgerMeaning.{Books, begun, sending, accepting, taking, lastSent, LedgerReached, opened as opens, sends, accepts, takes, waitingIn, lostIn, oldestPdcp, StatusMeans, TakenFrom, this-one, passes-over, LedgersMean, SendsMean, TakesMean, StatusesMean}
+use Rattle.bearer.proofs.Lists.Mapped.{each-so, each-both}
+use Rattle.bearer.proofs.Lists.Elements.{in-each, rising-first}
 use Rattle.bearer.proofs.Lists.Numbers.{positive, same-packet}
-use Rattle.bearer.proofs.Lists.Lengths.{roomy}
+use Rattle.bearer.proofs.Lists.Lengths.{roomy, half-is}
 use Rattle.bearer.proofs.Answers.Accepted.{same-state, not-refused, opened}
-use Rattle.bearer.proofs.Master.Pdcps.{pdcpOf, faster, few}
-use Rattle.bearer.proofs.Master.Sound.{Entries, entries-rest, Master, Sends, send-cases, master-sends}
+use Rattle.bearer.proofs.Master.Marks.{waitingOf}
+use Rattle.bearer.proofs.Master.Pdcps.{pdcpOf, few, one-pdcp}
+use Rattle.bearer.proofs.Master.Frees.{each-waiting, waiting-rising}
+use Rattle.bearer.proofs.Master.Oldest.{behind-lost}
+use Rattle.bearer.proofs.Master.Sound.{waiting-sent, Master, Sends, send-cases, master-sends}
 use Rattle.bearer.proofs.Master.Takes.{Left, take-cases, master-left}
 use Rattle.bearer.proofs.Master.Turned.{Turns}
-use Rattle.bearer.proofs.Master.Applied.{master-opened, master-turns, waiting-rising, waiting-sent, length-turned}
+use Rattle.bearer.proofs.Master.Applied.{master-opened, master-turns, length-turned}
 use Rattle.bearer.proofs.Master.AcceptsAny.{Passes, passes, freed-count, Frees, frees-by}
 
 -- ---- every reached ledger is sound
@@ -54,7 +58,7 @@ module _ {L first f : ℕ} {l : Ledger ℕ} {b : Books} (x : Sound L first f l b
   turned-by = master-turns (x .master) (p .frame .ranges) (p .pass) (p .found)
 
   freed-so : Frees L first (b .sent) l (p .frame) (p .pass .entries)
-  freed-so = frees-by (x .ok) (x .master) (p .frame) (turned-by .turned) (p .named)
+  freed-so = frees-by (x .master) (p .frame) (turned-by .turned) (p .named)
 
   -- how many it freed is how many entries left
   left-count : a .freed + length (accept l o .state .entries) ≡ length (l .entries)
@@ -129,7 +133,7 @@ module _ {L first f : ℕ} {l : Ledger ℕ} {b : Books} (x : Sound L first f l b
         ok = x .ok;
         cut = x .cut;
         master = master-left (x .master) left;
-        figures = rw (left .are) (same-figures (left .front ++ left .back));
+        figures = rw (left .are) (same-figures _ (left .front ++ left .back));
         sum = let h = x .sum in omega (arith, h, less, whole);
       }
     where
@@ -140,8 +144,8 @@ module _ {L first f : ℕ} {l : Ledger ℕ} {b : Books} (x : Sound L first f l b
       shorter front [] e = never-done _ t e
       shorter front (d ∷ es) e = omega (arith, length-append front es)
 
-      same-figures : (es : List (Entry ℕ)) → Figures L f (l with-entries es) (taking b)
-      same-figures es =
+      same-figures : (n : ℕ) (es : List (Entry ℕ)) → Figures L f (holding l n es) (taking b)
+      same-figures n es =
           let g = x .figures in
           record { highest-is = g .highest-is; last-is = g .last-is; desired-is = g .desired-is; minimum-is = g .minimum-is; closed-is = g .closed-is }
 
@@ -179,45 +183,62 @@ counts-sum (e ∷ es) = go (waits e) (counts-sum es)
     go true h = omega arith
     go false h = omega arith
 
+-- what holds of each entry that waits
+each-in-waiting : (P : Entry ℕ → Type 0) (es : List (Entry ℕ)) → Each (λ (e : Entry ℕ). waits e ≡ true → P e) es → Each P (waitingIn es)
+each-in-waiting P [] a = tt
+each-in-waiting P (e ∷ es) a = go (waits e) refl (each-in-waiting P es (a .1))
+  where
+    go : (b : Bool) → waits e ≡ b → Each P (waitingIn es) → Each P (if b then e ∷ waitingIn es else waitingIn es)
+    go true w r = (a .0 w, r)
+    go false w r = r
+
 module _ {L first cut : ℕ} {sent : List ℕ} {l : Ledger ℕ} (ok : isLength L ≡ true) (m : Master L first cut sent l) where
-  -- a packet that was sent past H, and its PDCP number
-  abbrev SentPast : Entry ℕ → Type 0
-  SentPast e = (cut ≤ e .label) × (e .label < length sent) × (e .pdcp ≡ pdcpOf sent (e .label))
+  -- a waiting packet was sent
+  was-sent : (x : ℕ) → In x (waitingOf (l .entries)) → x < length sent
+  was-sent x h = waiting-sent x (l .entries) (m .entries-are) h .1
+
+  -- an entry's packet waits, and its PDCP number is the entry's
+  abbrev WaitsAs : Entry ℕ → Type 0
+  WaitsAs e = In (e .label) (waitingOf (l .entries)) × (e .pdcp ≡ pdcpOf sent (e .label))
 
   -- such is every waiting entry
-  waiting-past : (es : List (Entry ℕ)) → Entries L first cut sent es → Each SentPast (waitingIn es)
-  waiting-past [] s = tt
-  waiting-past (e ∷ es) s = go (waits e) refl (waiting-past es (entries-rest s))
-    where
-      go : (b : Bool) → waits e ≡ b → Each SentPast (waitingIn es) → Each SentPast (if b then e ∷ waitingIn es else waitingIn es)
-      go true w r = let here = s .sent-as .0 in ((s .from-cut .0 w, here .was-sent, here .pdcp-is), r)
-      go false w r = r
+  waiting-as : Each WaitsAs (waitingIn (l .entries))
+  waiting-as =
+      each-in-waiting WaitsAs (l .entries)
+      (each-so (l .entries) (λ e b w. (b .1 w, b .0 .pdcp-is))
+      (each-both _ _ (l .entries) (m .entries-are .sent-as) (each-waiting (λ (e : Entry ℕ). In (e .label) (waitingOf (l .entries))) (l .entries) (λ e w h. h))))
 
-  -- forward from H it is more than 0, less than half the PDCP numbers, and ever farther
-  forward-past : (e : Entry ℕ) → SentPast e → 0 < pastHighest L l e
-  forward-past e k = rw (k .2) (m .ordered .past (e .label) (k .0) (k .1))
+  -- seen from a waiting packet, later ones that wait lie ever farther forward
+  seen-rising : (q o : ℕ) → q ≡ pdcpOf sent o → In o (waitingOf (l .entries)) → (ws : List (Entry ℕ)) → Each (λ (e : Entry ℕ). o ≤ e .label) ws → Rising (packets ws) → Each WaitsAs ws
+      → Rising (map (λ (e : Entry ℕ). forward (2 ^ L) q (e .pdcp)) ws)
+  seen-rising q o is w [] h r a = tt
+  seen-rising q o is w (e ∷ []) h r a = tt
+  seen-rising q o is w (e ∷ d ∷ ws) h r a = (
+    rw (is, a .0 .1, a .1 .0 .1) (m .ordered .up o (e .label) (d .label) w (h .0) (r .0) (was-sent (d .label) (a .1 .0 .0))),
+    seen-rising q o is w (d ∷ ws) (h .1) (r .1) (a .1),
+  )
 
-  forward-half : (e : Entry ℕ) → SentPast e → pastHighest L l e < pdcps L / 2
-  forward-half e k =
-      let d = length sent - 1 - e .label in
-      let last : e .label + d ≡ length sent - 1 = omega (arith, k .1) in
-      let far = faster (roomy L ok .some-pdcps) (m .ordered) (e .label) d (k .0) (omega (arith, k .1)) in
-      let near : forward (pdcps L) (l .highest) (pdcpOf sent (e .label + d)) < pdcps L / 2 = rw last (m .ordered .last-near (omega (arith, k .0, k .1))) in
-      rw (k .2) (omega (arith, far, near))
+  -- and all within half the PDCP numbers
+  seen-within : (q o : ℕ) → q ≡ pdcpOf sent o → In o (waitingOf (l .entries)) → (e : Entry ℕ) → o ≤ e .label → WaitsAs e → forward (2 ^ L) q (e .pdcp) < 2 ^ (L - 1)
+  seen-within q o is w e h a = rw (is, a .1, ← half-is L ok) (m .ordered .near o (e .label) w h (was-sent (e .label) (a .0)))
 
-  forward-rises : (ws : List (Entry ℕ)) → Rising (packets ws) → Each SentPast ws → Rising (map (pastHighest L l) ws)
-  forward-rises [] r a = tt
-  forward-rises (e ∷ []) r a = tt
-  forward-rises (e ∷ d ∷ ws) r a =
-      (rw (a .0 .2, a .1 .0 .2) (m .ordered .up (e .label) (d .label) (a .0 .0) (r .0) (a .1 .0 .1)), forward-rises (d ∷ ws) (r .1) (a .1))
+  -- so it is, seen from the oldest
+  abbrev Seen : List (Entry ℕ) → Type 0
+  Seen ws =
+      Rising (map (λ (e : Entry ℕ). forward (2 ^ L) (oldestPdcp ws) (e .pdcp)) ws)
+      × Each (λ (e : Entry ℕ). forward (2 ^ L) (oldestPdcp ws) (e .pdcp) < 2 ^ (L - 1)) ws
 
-  -- fewer than half the PDCP numbers lie between any two waiting packets
-  waiting-span : (i j : ℕ) → In i (packets (waitingIn (l .entries))) → In j (packets (waitingIn (l .entries))) → suc j < i + pdcps L / 2
-  waiting-span i j hi hj =
-      let a = waiting-sent i (l .entries) (m .entries-are) hi in
-      let b = waiting-sent j (l .entries) (m .entries-are) hj in
-      let f = few (roomy L ok .some-pdcps) (m .ordered) (omega (arith, a .0, a .1)) in
-      omega (arith, f, a .0, b .1)
+  seen-oldest : (ws : List (Entry ℕ)) → Rising (packets ws) → Each WaitsAs ws → Seen ws
+  seen-oldest [] r a = (tt, tt)
+  seen-oldest (e ∷ ws) r a =
+      let later : Each (λ (d : Entry ℕ). e .label ≤ d .label) (e ∷ ws) = in-each (λ (d : Entry ℕ). d .label) (λ (i : ℕ). e .label ≤ i) (e ∷ ws) (rising-first (e .label) (packets ws) r) in (
+        seen-rising (e .pdcp) (e .label) (a .0 .1) (a .0 .0) (e ∷ ws) later r a,
+        each-so (e ∷ ws) (λ d b. seen-within (e .pdcp) (e .label) (a .0 .1) (a .0 .0) d (b .0) (b .1)) (each-both _ _ (e ∷ ws) later a),
+      )
+
+  -- at most half the PDCP numbers were sent from a waiting packet on
+  sent-since : (i : ℕ) → In i (waitingOf (l .entries)) → length sent ≤ i + 2 ^ (L - 1)
+  sent-since i h = rw (← half-is L ok) (few (m .ordered) i h)
 
 -- every ledger that calls reach means what document 01 says
 pub ledgers-mean : LedgersMean
@@ -225,7 +246,8 @@ ledgers-mean L first f l b x =
     let s = sound x in
     let m = s .master in
     let e = m .entries-are in
-    let a = waiting-past (s .ok) m (l .entries) e in
+    let a = waiting-as (s .ok) m in
+    let seen = seen-oldest (s .ok) m (waitingIn (l .entries)) (waiting-rising (l .entries) (e .rising)) a in
     let g = s .figures in
     record {
       same-length = m .bits-are;
@@ -240,15 +262,19 @@ ledgers-mean L first f l b x =
       numbered = each-so (l .entries) (λ d k. k .numbered) (e .sent-as);
       pdcps-are = each-so (l .entries) (λ d k. k .pdcp-is) (e .sent-as);
       next-is = m .next-is;
-      pdcps-rise = forward-rises (s .ok) m (waitingIn (l .entries)) (waiting-rising (l .entries) (e .rising)) a;
-      past-highest = each-so (waitingIn (l .entries)) (forward-past (s .ok) m) a;
-      within-half = each-so (waitingIn (l .entries)) (forward-half (s .ok) m) a;
-      span = waiting-span (s .ok) m;
+      oldest-is = m .oldest-is ∙ behind-lost (l .entries);
+      pdcps-rise = seen .0;
+      within-half = seen .1;
+      one-pdcp = λ i j hi hj. one-pdcp (m .ordered) i j hi hj (was-sent (s .ok) m i hi) (was-sent (s .ok) m j hj);
+      not-highest = each-so (waitingIn (l .entries)) (λ d k q. m .ordered .not-highest (d .label) (k .0) (sym (k .1) ∙ q)) a;
+      span = sent-since (s .ok) m;
       one-number = λ i j hi hj q.
           let n = roomy L (s .ok) in
-          let p = waiting-span (s .ok) m i j hi hj in
-          let r = waiting-span (s .ok) m j i hj hi in
-          same-packet (modulusOf L) first (positive L) i j (omega (arith, r, n .halves, n .more-pdcps)) (omega (arith, p, n .halves, n .more-pdcps)) q;
+          let p = few (m .ordered) i hi in
+          let r = few (m .ordered) j hj in
+          let si = was-sent (s .ok) m i hi in
+          let sj = was-sent (s .ok) m j hj in
+          same-packet (modulusOf L) first (positive L) i j (omega (arith, n .halves, n .more-pdcps, n .some-pdcps)) (omega (arith, n .halves, n .more-pdcps, n .some-pdcps)) q;
       most = e .most;
     }
 

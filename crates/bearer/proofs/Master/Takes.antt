@@ -4,16 +4,20 @@ use mathlib.Core.Path.{_≡_, refl, sym, _∙_, ap}
 use mathlib.Core.Bool.{Bool, true, false, not}
 use mathlib.Core.List.{List, [], _∷_, _++_}
 use mathlib.Core.Logic.{_⊎_, inl, inr, ⊎-elim}
-use Prim.Native.Nat.{ℕ}
+use Prim.Native.Nat.{ℕ, _≤_}
 use native.Mathlib.Omega.{arith}
 use borrow.Author.Tests.{not-true}
-use lib.ListN.{take, drop, take-append-drop}
+use lib.ListN.{length, take, drop, take-append-drop}
 use Rattle.basics.specs.Basics.{if_then_else_, _or_}
 use Rattle.basics.proofs.Choices.{tested, contrary, or-true}
-use Rattle.bearer.specs.Ledger.{Entry, Ledger, _with-entries_, waits, takeAt, takeFrom, takeOldest}
-use Rattle.bearer.specs.Packets.{packets}
+use Rattle.bearer.specs.Ledger.{Entry, Ledger, waits, waitingAt, holding, placeWithout, takeAt, takeFrom, takeOldest}
+use Rattle.bearer.specs.Packets.{packets, In}
 use Rattle.bearer.specs.LedgerMeaning.{waitingIn}
+use Rattle.bearer.proofs.Lists.Elements.{in-left, in-right, in-append}
 use Rattle.bearer.proofs.Master.Marks.{waitingOf}
+use Rattle.bearer.proofs.Master.Pdcps.{fewer}
+use Rattle.bearer.proofs.Master.Frees.{waiting-rest}
+use Rattle.bearer.proofs.Master.Oldest.{found-from, oldest-without}
 use Rattle.bearer.proofs.Master.Sound.{Master, entries-without, waiting-append}
 
 -- one entry left: the end is closed, or the entry was lost
@@ -22,7 +26,7 @@ pub record Left (l t : Ledger ℕ) : Type 0 where
   pub gone : Entry ℕ
   pub back : List (Entry ℕ)
   pub were : l .entries ≡ front ++ (gone ∷ back)
-  pub are : t ≡ l with-entries (front ++ back)
+  pub are : t ≡ holding l (placeWithout (length front) (l .oldest)) (front ++ back)
   pub why : (l .closed ≡ true) ⊎ (waits gone ≡ false)
 
 -- what stands first from the place of a take on may be taken
@@ -58,14 +62,25 @@ take-cases l = go (drop (takeAt (l .closed) (l .entries)) (l .entries)) refl
           why = taken-why (l .closed) (l .entries) e b q;
         })
 
+-- who waits without the entry waited
+waited-without : (a : List (Entry ℕ)) (e : Entry ℕ) (b : List (Entry ℕ)) (x : ℕ) → In x (waitingOf (a ++ b)) → In x (waitingOf (a ++ (e ∷ b)))
+waited-without a e b x p =
+    rw (waiting-append a (e ∷ b))
+    (⊎-elim (in-left x (waitingOf a) (waitingOf (e ∷ b))) (λ q. in-right x (waitingOf a) (waitingOf (e ∷ b)) (waiting-rest x e b q)) (in-append x (waitingOf a) (waitingOf b) (rw (waiting-append a b) at p)))
+
 -- the ledger is as sound without the entry
 pub master-left : {L first cut : ℕ} {sent : List ℕ} {l t : Ledger ℕ} → Master L first cut sent l → Left l t → Master L first cut sent t
-master-left m s =
+master-left {l = l} m s =
+    let place : placeWithout (length (s .front)) (l .oldest) ≤ waitingAt (s .front ++ s .back) =
+    rw (m .oldest-is, s .were) (oldest-without (s .front) (s .gone) (s .back))
+    in
     rw (s .are) (record {
       bits-are = m .bits-are;
       next-is = m .next-is;
+      cut-sent = m .cut-sent;
+      oldest-is = found-from _ (s .front ++ s .back) place;
       entries-are = entries-without (s .front) (s .gone) (s .back) (rw (s .were) at (m .entries-are));
-      ordered = m .ordered;
+      ordered = fewer (m .ordered) {ws′ = waitingOf (s .front ++ s .back)} (λ x p. rw (s .were) (waited-without (s .front) (s .gone) (s .back) x p));
     })
 
 -- while the end is open, who waits still waits

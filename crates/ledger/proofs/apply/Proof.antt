@@ -1,4 +1,4 @@
--- `apply`: what the passes leave is what the machine makes of the ranges and the highest. Assumes nothing.
+-- `apply`: what the passes leave is what the machine makes of the ranges and the highest, and the oldest that waits is found again. Assumes nothing.
 use mathlib.Core.Path.{_≡_, sym, _∙_, ap}
 use mathlib.Core.Bool.{true}
 use mathlib.Core.List.{List}
@@ -83,23 +83,27 @@ returns-2 c =
 free-through-requires : tie.Need-free-through-requires
 free-through-requires c κs = search needs
 
+waiting-from-requires : tie.Need-waiting-from-requires
+waiting-from-requires c κs = search needs
+
 least-requires : tie.Need-least-requires
 least-requires c κs = search needs
 
-sub-t13 : tie.Need-sub-t13
-sub-t13 c = search needs
+sub-t14 : tie.Need-sub-t14
+sub-t14 c = search needs
 
-cast-t14 : tie.Need-cast-t14
-cast-t14 c = search needs
+cast-t15 : tie.Need-cast-t15
+cast-t15 c = search needs
 
 returns-3 : tie.Need-returns-3
 returns-3 c =
-    let f = c .before .before .before in
+    let n = c .before in
+    let f = n .before .before .before in
     let h = judged f in
     let k = marked h in
     let l = start k .args .l in
     let judged-so = sym (h .may-be-highest .ensures) ∙ not-false _ (f .before .if2 .left) in
-    sym (accept-done (ledgerIn l) (status k) (k .mark .result) (l .count) (marks k) (found h) judged-so (f .free-through .result) (f .free-through .ensures .0) (c .before .least .result) (c .before .least .ensures))
+    sym (accept-done (ledgerIn l) (status k) (k .mark .result) (l .count) (marks k) (found h) judged-so (f .free-through .result) (f .free-through .ensures .0) (n .least .result) (n .least .ensures) (n .before .waiting-from .result) (n .before .waiting-from .ensures))
 
 pub apply-spec : {M : Type 1} → statement M
 apply-spec =
@@ -113,7 +117,8 @@ apply-spec =
     not-accepted-requires-2
     returns-2
     free-through-requires
+    waiting-from-requires
     least-requires
-    sub-t13
-    cast-t14
+    sub-t14
+    cast-t15
     returns-3)

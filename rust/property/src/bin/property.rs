@@ -1,14 +1,15 @@
 //! Runs every property on the product.
 
 use model::Opening;
-use property::bearer::{Bearer, Step, openings, steps};
+use property::bearer::{Bearer, Step, openings, openings_of, steps};
 use property::scripts::{Aim, Script};
 use property::suite::{Suite, Verdict};
 use property::trace::Trace;
-use property::{codec, frames, keeper, replay, scripts};
+use property::{codec, frames, keeper, replay, rested, scripts};
 use proptest::collection::vec;
 use proptest::prelude::*;
 use soak::options::Options;
+use soak::order::Sends;
 use soak::table::Table;
 use std::cell::{Cell, RefCell};
 use std::path::{Path, PathBuf};
@@ -202,6 +203,8 @@ fn replays(suite: &mut Suite, name: &str, programs: [&Path; 2], least: u64, long
         suite.property(&titled("a turn of the numbers"), 1, &Aim::Turn, &mut alike);
         suite.property(&titled("forgotten losses"), 1, &Aim::Forgotten, &mut alike);
     }
+    let cases = least.div_ceil(20_000) as u32;
+    suite.property(&titled("rests"), cases, &Aim::Rests, &mut alike);
     suite.property(
         &titled("lines that aim at nothing"),
         least.div_ceil(50_000) as u32,
@@ -240,6 +243,7 @@ fn opposite_copy(
 /// Demand 3 on the product's own traces.
 fn demand_3(suite: &mut Suite, programs: [&Path; 2], cases: u32) {
     let (lines, freed, lost) = (Cell::new(0), Cell::new(0), Cell::new(0));
+    let sends = RefCell::new(Sends::default());
     let told = |trace: &Trace| {
         let answers = replay::answers_alike(programs, &Script(trace.lines.clone()))?;
         let tally = trace.check(&answers)?;
@@ -254,8 +258,15 @@ fn demand_3(suite: &mut Suite, programs: [&Path; 2], cases: u32) {
         for step in steps {
             bearer.make(step)?;
         }
+        sends.borrow_mut().add(bearer.sends);
         told(&bearer.trace).map(|_| ())
     });
+    for bits in [12, 15, 18] {
+        let name = format!("demand 3, a bearer that rests, L {bits}");
+        suite.property(&name, 3, &openings_of(Just(bits)), |opening| {
+            told(&rested::play(*opening)?.trace).map(|_| ())
+        });
+    }
     suite.property(
         "demand 3, a copy opposite base",
         1,
@@ -271,5 +282,11 @@ fn demand_3(suite: &mut Suite, programs: [&Path; 2], cases: u32) {
     suite.check(
         "demand 3: packets were freed and lost",
         freed.get() > 0 && lost.get() > 0,
+    );
+    let sends = sends.into_inner();
+    println!("demand 3 on traces, sends: {sends}");
+    suite.check(
+        "demand 3: sends after rests, and at limits",
+        sends.least() > 0,
     );
 }

@@ -1,6 +1,7 @@
 //! Frames, numbers and lines from somebody who means harm.
 
 use crate::frames;
+use crate::order::last_left;
 use crate::script::Script;
 use x2u::Form;
 use x2u::frame::{MOST_RANGES, Range, Report};
@@ -80,10 +81,26 @@ fn report(highest: u32, is_final: bool) -> Report {
     }
 }
 
+/// A status that names some of what waits lost. All the rest is freed, or none.
+pub(super) fn losses(script: &mut Script, frees_rest: bool) {
+    let entries: Vec<Entry> = script.ends.ledger.entries().copied().collect();
+    let named = script.rng.pick(&[0, 10, 50, 100]);
+    let ranges = waiting_ranges(script, &entries, named);
+    let ledger = &script.ends.ledger;
+    let highest = if frees_rest {
+        last_left(script.ends.bearer.numbers(), ledger, &ranges)
+    } else {
+        ledger.highest()
+    };
+    let octets = frames::status(form_of(script), &report(highest, false), &ranges);
+    script.accept(&octets);
+}
+
 /// A status that the master accepts, or would but for one thing.
 fn aimed(script: &mut Script) -> Vec<u8> {
     let entries: Vec<Entry> = script.ends.ledger.entries().copied().collect();
-    let mut ranges = waiting_ranges(script, &entries);
+    let named = script.rng.pick(&[0, 0, 3, 20, 80]);
+    let mut ranges = waiting_ranges(script, &entries, named);
     if script.rng.chance(30) && !ranges.is_empty() {
         spoil(script, &mut ranges, &entries);
     }
@@ -103,9 +120,8 @@ fn aimed(script: &mut Script) -> Vec<u8> {
     octets
 }
 
-/// Some of the waiting entries, as ranges.
-fn waiting_ranges(script: &mut Script, entries: &[Entry]) -> Vec<Range> {
-    let named = script.rng.pick(&[0, 0, 3, 20, 80]);
+/// So many in 100 of the waiting entries, as ranges.
+fn waiting_ranges(script: &mut Script, entries: &[Entry], named: u32) -> Vec<Range> {
     let circle = script.ends.bearer.numbers();
     let mut ranges: Vec<Range> = Vec::new();
     for entry in entries.iter().filter(|entry| entry.fate == Fate::Waiting) {
@@ -166,11 +182,12 @@ pub(super) fn numbers(script: &mut Script) {
             0 => number ^ script.rng.within(0..4),
             _ => script.rng.within(0..4_096),
         };
-        match script.rng.within(0..5) {
+        match script.rng.within(0..6) {
             0 => script.bad_open(),
             1 => script.arrive(number, pdcp),
             2 => script.confirm(number),
             3 => script.send(pdcp),
+            4 => script.send_at_edge(),
             _ => script.take(),
         }
     }

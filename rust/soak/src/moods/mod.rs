@@ -18,7 +18,7 @@ pub fn script(rng: Rng) -> Script {
 #[must_use]
 pub fn in_moods(mut script: Script) -> Script {
     for round in 0..script.rng.within(2..7) {
-        match script.rng.within(0..22) {
+        match script.rng.within(0..25) {
             0..3 => stress::runs(&mut script),
             3 => stress::records(&mut script),
             4..6 => stress::jumps(&mut script),
@@ -28,6 +28,7 @@ pub fn in_moods(mut script: Script) -> Script {
             14..16 => hostile::lines(&mut script),
             // Not at once, so that most calls meet an open bearer.
             16 if round > 1 => hostile::closing(&mut script),
+            17..20 => stress::rests(&mut script),
             _ => traffic::traffic(&mut script),
         }
         if script.rng.chance(30) {
@@ -54,6 +55,17 @@ pub fn long_script(rng: Rng, both_ends: bool) -> Script {
     }
     hostile::frames(&mut script);
     script.show();
+    script
+}
+
+/// A script of rests, and sends at the limits of the PDCP order, on one bearer.
+#[must_use]
+pub fn rested(rng: Rng) -> Script {
+    let mut script = Script::new(rng);
+    for _ in 0..5 {
+        stress::rests(&mut script);
+        script.show();
+    }
     script
 }
 

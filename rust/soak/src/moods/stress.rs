@@ -1,5 +1,7 @@
-//! Stores filled to their limits and beyond, and the far side of the circle.
+//! Stores filled to their limits and beyond, the far side of the circle, and
+//! both sides of the limits of send.
 
+use super::hostile;
 use crate::script::Script;
 use x2u::Form;
 use x2u::frame::MOST_RANGES;
@@ -137,15 +139,39 @@ pub(super) fn ledger(script: &mut Script) {
         };
         script.send_next(skip);
     }
+    edges(script);
+}
+
+/// Sends at the limits of the PDCP order, and anywhere.
+fn edges(script: &mut Script) {
     for _ in 0..script.rng.within(0..12) {
-        let (pdcp, ledger) = (script.ends.bearer.pdcp, &script.ends.ledger);
-        let near = script.rng.within(0..5);
-        let number = match script.rng.within(0..4) {
-            0 => pdcp.step(ledger.highest(), pdcp.half() - 2 + near),
-            1 => pdcp.step(ledger.highest(), near),
-            2 => pdcp.step(ledger.last_sent(), near),
-            _ => script.rng.word() % pdcp.size(),
-        };
-        script.send(number);
+        if script.rng.chance(80) {
+            script.send_at_edge();
+        } else {
+            let pdcp = script.rng.word() % script.ends.bearer.pdcp.size();
+            script.send(pdcp);
+        }
+    }
+}
+
+/// A bearer that rests on the master's own radio, mostly while nothing waits;
+/// what was lost before may stand in front of what is sent then, and behind it.
+pub(super) fn rests(script: &mut Script) {
+    for _ in 0..script.rng.within(3..20) {
+        for _ in 0..script.rng.pick(&[1, 2, 10, 40]) {
+            script.send_next(0);
+        }
+        edges(script);
+        if script.rng.chance(40) {
+            hostile::losses(script, false);
+            edges(script);
+        }
+        if script.rng.chance(80) {
+            hostile::losses(script, true);
+        }
+        if script.rng.chance(20) {
+            script.take();
+        }
+        script.send_after_rest();
     }
 }

@@ -67,6 +67,9 @@ pub(super) fn turn(script: &mut Script) {
 }
 
 fn round(script: &mut Script, road: &Road) {
+    if script.ends.ledger.oldest_waiting().is_none() && script.rng.once_in(4) {
+        script.send_after_rest();
+    }
     for _ in 0..script.rng.within(1..road.burst + 1) {
         let skip = if script.rng.once_in(40) {
             script.rng.within(0..20)

@@ -9,7 +9,7 @@ use std::fmt::{self, Display, Formatter};
 use x2u::frame::MOST_RANGES;
 
 const WIDTH: f64 = 1_220.0;
-const HEIGHT: f64 = 1_175.0;
+const HEIGHT: f64 = 1_190.0;
 const LEFT: f64 = 90.0;
 const RIGHT: f64 = 190.0;
 const PANEL: f64 = 180.0;

@@ -38,6 +38,17 @@ pub const OWN_RADIO: u32 = 200;
 /// How many those are.
 pub const OWN_RADIO_PACKETS: Range<u32> = 1..4;
 
+/// The bearer rests after such a pause: every PDU goes over the master's own
+/// radio. A rest begins behind a packet that the road carries, since one that is
+/// dropped would wait for ever: no send would be in order half a circle on.
+pub const REST_PAUSE: Range<u32> = 3_000..7_000;
+/// It is so many hundredths of the PDCP circle long, in turn, and every fourth
+/// goes on to H.
+pub const REST_LENGTHS: [Range<u32>; 3] = [1..49, 51..99, 101..250];
+/// One in so many goes by at once, while packets wait; before the others nothing
+/// is sent until nothing waits.
+pub const REST_AT_ONCE: u32 = 3;
+
 /// From master to secondary.
 pub const ROAD: Range<u32> = 6..8;
 /// One packet in so many takes longer,
@@ -226,6 +237,8 @@ pub fn secondary() -> Vec<Row> {
 #[must_use]
 pub fn master() -> Vec<Row> {
     let radio = shown(&OWN_RADIO_PACKETS);
+    let lengths = REST_LENGTHS.map(|length| format!("{} to {}", length.start, length.end));
+    let lengths = lengths.join(", ");
     vec![
         (
             "lost packets taken",
@@ -234,6 +247,25 @@ pub fn master() -> Vec<Row> {
         (
             "on the master's own radio",
             format!("{radio} packets after 1 send in {OWN_RADIO}"),
+        ),
+        (
+            "rests there, nothing over X2",
+            format!("after a pause of {}", milliseconds(&REST_PAUSE)),
+        ),
+        (
+            "  a rest begins",
+            "behind a packet that arrives; not while statuses are stuck or withheld, or the handset sleeps"
+                .to_owned(),
+        ),
+        (
+            "  its PDUs, none of the source's",
+            format!("{lengths} hundredths of the PDCP circle in turn, then up to H"),
+        ),
+        (
+            "  its time",
+            format!(
+                "until nothing waits; 1 in {REST_AT_ONCE} is over at once, and sends wait for the PDCP order"
+            ),
         ),
         (
             "both ends shown and compared",

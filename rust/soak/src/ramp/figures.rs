@@ -1,6 +1,7 @@
 //! What a ramp came to, in figures.
 
 use super::losses::Losses;
+use super::rests::Rested;
 use super::source::Flow;
 use super::weather::TROUBLES;
 use model::Pair;
@@ -61,17 +62,14 @@ pub type Troubles = [bool; TROUBLES.len()];
 /// When a circle of numbers rolled over, in milliseconds.
 #[derive(Clone, Debug, Default)]
 pub struct Rollovers {
-    last: Option<u32>,
-    /// The times.
+    /// The times: a rollover that no packet met is seen at the next one.
     pub times: Vec<u64>,
 }
 
 impl Rollovers {
-    fn see(&mut self, number: u32, now: u64) {
-        if self.last.is_some_and(|last| number < last) {
-            self.times.push(now);
-        }
-        self.last = Some(number);
+    /// A number of that turn of the circle went out.
+    fn see(&mut self, turn: u64, now: u64) {
+        self.times.resize(turn as usize, now);
     }
 }
 
@@ -88,8 +86,14 @@ pub struct Figures {
     pub overtaken: u64,
     /// Arrivals refused as late, opposite or repeated.
     pub strays: u64,
-    /// PDCP numbers used on the master's own radio.
+    /// PDCP numbers used on the master's own radio, between packets.
     pub own_radio: u64,
+    /// Those of them that bore H, so that X2 refused them.
+    pub bore_highest: u64,
+    /// Rests on the master's own radio.
+    pub rests: Rested,
+    /// PDCP numbers used in all.
+    pub pdcps_used: u64,
     /// Statuses with the highest held back, for more runs than a frame carries.
     pub held_back: u64,
     /// Ranges carried by all statuses.
@@ -100,8 +104,10 @@ pub struct Figures {
     pub most_ranges: usize,
     /// Rollovers of the X2-U numbers sent.
     pub numbers: Rollovers,
-    /// Rollovers of the PDCP numbers sent.
+    /// Rollovers of the PDCP numbers used.
     pub pdcp: Rollovers,
+    /// Those of them in rests.
+    pub pdcp_in_rests: u64,
     /// The fullest the stores ever were.
     pub fullest: Stores,
     /// Second by second.
@@ -112,8 +118,8 @@ pub struct Figures {
 }
 
 impl Figures {
-    /// A packet went out.
-    pub fn sent(&mut self, number: u32, pdcp: u32, now: u64) {
+    /// A packet went out, in these turns of the X2-U and of the PDCP numbers.
+    pub fn sent(&mut self, [number, pdcp]: [u64; 2], now: u64) {
         self.numbers.see(number, now);
         self.pdcp.see(pdcp, now);
         self.now_sent += 1;

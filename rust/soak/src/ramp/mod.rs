@@ -12,6 +12,7 @@ pub mod losses;
 pub mod play;
 pub mod refusals;
 pub mod report;
+pub mod rests;
 pub mod run;
 pub mod source;
 pub mod table;

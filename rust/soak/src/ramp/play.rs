@@ -18,6 +18,7 @@ use model::Opening;
 use model::demand::Tally;
 use std::cmp::Reverse;
 use std::collections::{BinaryHeap, VecDeque};
+use x2u::Refusal;
 use x2u::frame::LONGEST;
 
 /// How a ramp ended.
@@ -79,7 +80,7 @@ impl Play {
         Self {
             bench,
             opening,
-            weather: Weather::new(settings.rate, settings.seconds, weather_rng),
+            weather: Weather::new(settings, weather_rng),
             rng,
             figures: Figures::default(),
             now: 0,
@@ -101,6 +102,8 @@ impl Play {
             self.figures.second(&self.bench.pair);
         }
         self.figures.flow = self.source.flow();
+        self.figures.rests = self.weather.rests.rested;
+        self.figures.pdcps_used = self.next_pdcp - self.opening.first_pdcp;
         self.figures.losses.end(self.bench.pair.watch.base());
         let sent = self.bench.pair.watch.sent_count() as u64;
         let calls = self.bench.calls;
@@ -153,14 +156,16 @@ impl Play {
 
     fn sends(&mut self) -> Result<(), Trouble> {
         self.source.offer(self.now);
-        if self.weather.holds_sending() {
-            self.source.held(HeldBy::Pause);
-            return Ok(());
+        if self.weather.rests.drains() && self.nothing_waits() {
+            self.rest();
         }
-        while self.source.has_packet() {
+        while !self.weather.holds_sending() && self.source.has_packet() {
             let pdcp = (self.next_pdcp % self.opening.pdcps()) as u32;
             match self.bench.send(pdcp)? {
-                Ok(number) => self.went_out(number, pdcp),
+                Ok(number) => self.went_out(number),
+                Err(Refusal::PdcpOrder) if pdcp == self.bench.pair.ledger.highest() => {
+                    self.pass_highest();
+                }
                 Err(refusal) => {
                     let by = held_by(refusal).ok_or_else(|| {
                         Trouble::Demand(format!("a send was refused: {refusal:?}"))
@@ -170,11 +175,45 @@ impl Play {
                 }
             }
         }
+        if self.weather.holds_sending() {
+            self.source.held(HeldBy::Pause);
+        }
         Ok(())
     }
 
-    fn went_out(&mut self, number: u32, pdcp: u32) {
+    fn nothing_waits(&self) -> bool {
+        self.bench.pair.ledger.oldest_waiting().is_none()
+    }
+
+    /// A rest goes by: its PDUs use up their numbers, and no time.
+    fn rest(&mut self) {
+        let pdcps = self.opening.pdcps();
+        let next = (self.next_pdcp % pdcps) as u32;
+        let highest = self.bench.pair.ledger.highest();
+        let to_highest = self.opening.pdcps_forward(next, highest);
+        let pdus = self.weather.rests.go_by(self.now, to_highest);
+        let turn = self.next_pdcp / pdcps;
+        self.next_pdcp += pdus;
+        self.figures.pdcp_in_rests += self.next_pdcp / pdcps - turn;
+    }
+
+    /// The PDU that bears H goes over the master's own radio. Nothing may wait,
+    /// or what waits never arrive: then no status would ever change H.
+    fn pass_highest(&mut self) {
+        self.next_pdcp += 1;
+        self.figures.own_radio += 1;
+        self.figures.bore_highest += 1;
+    }
+
+    fn went_out(&mut self, number: u32) {
         self.source.sent(self.now);
+        let packet = self.bench.pair.watch.sent_count() - 1;
+        let counted = self.opening.first + packet as u64;
+        let turns = [
+            counted / self.opening.numbers(),
+            self.next_pdcp / self.opening.pdcps(),
+        ];
+        self.figures.sent(turns, self.now);
         // A few packets go over the master's own radio and use up their numbers.
         let skipped = if self.rng.once_in(OWN_RADIO) {
             self.rng.within(OWN_RADIO_PACKETS)
@@ -183,8 +222,6 @@ impl Play {
         };
         self.next_pdcp += 1 + u64::from(skipped);
         self.figures.own_radio += u64::from(skipped);
-        let packet = self.bench.pair.watch.sent_count() - 1;
-        self.figures.sent(number, pdcp, self.now);
         let dropped = self.weather.drops() || self.drops_over_rollover(number);
         self.figures.losses.sent(dropped);
         if dropped {
@@ -196,6 +233,9 @@ impl Play {
             let later = self.now + TWIN_LATER * self.weather.road();
             self.road.push(Reverse((later, packet)));
             self.figures.copies += 1;
+        }
+        if self.weather.begins_rest() {
+            self.rest();
         }
     }
 

@@ -165,12 +165,33 @@ impl Report<'_> {
         line(out, "freed by the master", tally.freed)?;
         line(out, "taken from the master", tally.taken)?;
         let waiting = tally.taken.saturating_sub(tally.lost);
-        line(out, "  of them still waiting when Final closed it", waiting)?;
-        line(
-            out,
-            "PDCP numbers on the master's own radio",
-            figures.own_radio,
-        )
+        line(out, "  of them still waiting when Final closed it", waiting)
+    }
+
+    fn rests(&self, out: &mut Formatter<'_>) -> fmt::Result {
+        let figures = &self.ending.figures;
+        let rests = figures.rests;
+        section(out, "Rests: every PDU went over the master's own radio")?;
+        let parts = [
+            ("of up to half the PDCP circle", rests.parts),
+            ("of more than half of it", rests.halves),
+            ("of more than a whole turn", rests.turns),
+        ];
+        sum(out, "rests", &parts, rests.count())?;
+        line(out, "  of them gone by while packets waited", rests.at_once)?;
+        line(out, "longest rest, PDCP numbers", rests.longest)?;
+        section(out, "What became of the PDCP numbers")?;
+        let parts = [
+            ("sent over X2", self.ending.sent),
+            ("on the master's own radio alone, in rests", rests.pdus),
+            (
+                "on the master's own radio, between packets",
+                figures.own_radio,
+            ),
+        ];
+        sum(out, "PDCP numbers used", &parts, figures.pdcps_used)?;
+        let highest = figures.bore_highest;
+        line(out, "  of those between packets, H: refused (35)", highest)
     }
 
     fn losses(&self, out: &mut Formatter<'_>) -> fmt::Result {
@@ -223,7 +244,8 @@ impl Report<'_> {
         )?;
         section(out, "Rollovers met")?;
         line(out, "X2-U numbers", figures.numbers.times.len() as u64)?;
-        line(out, "PDCP numbers", figures.pdcp.times.len() as u64)
+        line(out, "PDCP numbers", figures.pdcp.times.len() as u64)?;
+        line(out, "  of them in rests", figures.pdcp_in_rests)
     }
 
     fn stores(&self, out: &mut Formatter<'_>) -> fmt::Result {
@@ -378,6 +400,7 @@ impl Display for Report<'_> {
         self.rate(out)?;
         self.flow(out)?;
         self.packets(out)?;
+        self.rests(out)?;
         self.losses(out)?;
         self.dropped(out)?;
         self.statuses(out)?;

@@ -17,7 +17,8 @@ pub fn list(report: &Report<'_>) -> Vec<String> {
 }
 
 /// True of every ramp.
-const ALWAYS: [&str; 5] = [
+const ALWAYS: [&str; 6] = [
+    "A rest behind a packet that is dropped: it waits on, and from half a circle of PDCP numbers on sends are refused (35).",
     "More than one bearer at a time, a bearer opened again, a run of calls from several threads.",
     "A real clock, real timers, a real radio or handset: time, delays and confirms are simulated.",
     "The archive for C and its header: every call went to the program under test as a line of text.",
@@ -66,6 +67,12 @@ fn coverage(report: &Report<'_>) -> Vec<String> {
     }
     if ending.figures.pdcp.times.is_empty() {
         list.push("A rollover of the PDCP numbers.".to_owned());
+    }
+    if ending.figures.rests.halves + ending.figures.rests.turns == 0 {
+        list.push("A rest of more than half the PDCP circle.".to_owned());
+    }
+    if ending.figures.rests.turns == 0 {
+        list.push("A rest of more than a whole turn of the PDCP circle.".to_owned());
     }
     list.extend(stores(ending.figures.fullest));
     if !refusals::any_to(&ending.table, "accept") {

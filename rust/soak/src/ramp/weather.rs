@@ -1,11 +1,13 @@
 //! What happens to a bearer while the chamber warms up: spells of trouble that
 //! begin now and then, each lasting long enough to bring a store near its
-//! limit at the chosen packet rate.
+//! limit at the chosen packet rate; and rests.
 
+use super::Settings;
 use super::conditions::{
     ASLEEP, BURST, COMB_FIRST, COMB_OVER, COMB_PACKETS, COMB_PAUSE, COMB_QUIET, COMB_TEETH, DROPS,
     HANDSET, NOT_TAKEN, OVERTAKEN, OVERTAKEN_BY, ROAD, ROAD_BACK, STUCK, Spells, TWIN,
 };
+use super::rests::Rests;
 use crate::rng::Rng;
 use std::ops::Range;
 
@@ -64,12 +66,13 @@ enum Comb {
 }
 
 /// The kinds of trouble that a chart shows, second by second.
-pub const TROUBLES: [&str; 5] = [
+pub const TROUBLES: [&str; 6] = [
     "a burst dropped",
     "every 2nd packet dropped",
     "statuses stuck",
     "handset asleep",
     "losses not taken",
+    "bearer rests",
 ];
 
 /// The chamber, at a time in milliseconds.
@@ -88,22 +91,26 @@ pub struct Weather {
     /// Nobody takes lost packets from the master.
     idle_master: Spell,
     comb: Comb,
+    /// All PDUs go over the master's own radio.
+    pub rests: Rests,
 }
 
 impl Weather {
-    /// The weather of a ramp of `seconds` at `rate` packets a second.
+    /// The weather of a ramp.
     #[must_use]
-    pub fn new(rate: u32, seconds: u32, rng: Rng) -> Self {
+    pub fn new(settings: &Settings, rng: Rng) -> Self {
         let mut rng = rng;
+        let rate = settings.rate;
         Self {
             now: 0,
-            whole: u64::from(seconds) * 1_000,
+            whole: u64::from(settings.seconds) * 1_000,
             packet: 1_000_000 / u64::from(rate.max(1)),
             burst: Spell::new(&BURST, rate, &mut rng),
             stuck: Spell::new(&STUCK, rate, &mut rng),
             asleep: Spell::new(&ASLEEP, rate, &mut rng),
             idle_master: Spell::new(&NOT_TAKEN, rate, &mut rng),
             comb: Comb::Idle { until: COMB_FIRST },
+            rests: Rests::new(1 << settings.bits, Rng::new(rng.bits())),
             rng,
         }
     }
@@ -172,7 +179,15 @@ impl Weather {
     /// Whether the master sends nothing for now.
     #[must_use]
     pub fn holds_sending(&self) -> bool {
-        matches!(self.comb, Comb::Quiet { .. } | Comb::Over { .. })
+        matches!(self.comb, Comb::Quiet { .. } | Comb::Over { .. }) || self.rests.drains()
+    }
+
+    /// Begins a rest if one is due, and what waits will soon be settled. Answers
+    /// whether it goes by at once.
+    pub fn begins_rest(&mut self) -> bool {
+        let combs = !matches!(self.comb, Comb::Idle { .. });
+        let is_slow = combs || self.stuck.is_on(self.now) || self.handset_sleeps();
+        !is_slow && self.rests.begin(self.now)
     }
 
     /// Whether the secondary builds no status for now.
@@ -202,6 +217,7 @@ impl Weather {
             self.stuck.is_on(self.now),
             self.handset_sleeps(),
             self.leaves_losses(),
+            self.rests.is_on(self.now),
         ]
     }
 

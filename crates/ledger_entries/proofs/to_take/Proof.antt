@@ -1,4 +1,4 @@
--- `oldest`: what may be taken of the entries still to be passed is what may be taken of all. Assumes nothing.
+-- `to_take`: what may be taken of the entries still to be passed is what may be taken of all. Assumes nothing.
 use mathlib.Core.Path.{_≡_, sym, _∙_}
 use Prim.Native.Nat.{_+_, _-_}
 use native.Mathlib.Nat.{zero-add}
@@ -7,10 +7,10 @@ use lib.ListN.{drop}
 use Rattle.bearer.specs.Ledger.{takeAt}
 use Rattle.ledger_entries.specs.View.{heldIn}
 use Rattle.ledger_entries.proofs.Entries.{Reached, here, next, passed-all}
-use Rattle.ledger_entries.proofs.Passes.{passed-over, may-be-taken, none-taken}
+use Rattle.ledger_entries.proofs.Passes.{finds-takeable, passed-over, found-here, found-none}
 use borrow.Author.Needs.{needs}
-use Rattle.ledger_entries.proofs.oldest.Statement.{statement}
-use Rattle.ledger_entries.proofs.oldest.Tie as tie
+use Rattle.ledger_entries.proofs.to_take.Statement.{statement}
+use Rattle.ledger_entries.proofs.to_take.Tie as tie
 
 abbrev Inv-loop : tie.InvT-loop
 Inv-loop count closed es n at₀ at = Reached es count n at × (takeAt closed (heldIn es count) ≡ at + takeAt closed (drop at (heldIn es count)))
@@ -44,7 +44,7 @@ returns : tie.Need-returns Inv-loop μ-loop
 returns c =
     let p = turn (c .before) in
     let v = p .loop .inv in
-    sym (v .1 ∙ may-be-taken (start p .args .closed) (here (v .0) (omega arith) _) (sym (c .before .may-go .ensures) ∙ c .if1 .taken))
+    sym (v .1 ∙ found-here (finds-takeable (start p .args .closed)) (here (v .0) (omega arith) _) (sym (c .before .may-go .ensures) ∙ c .if1 .taken))
 
 add-at : tie.Need-add-at Inv-loop μ-loop
 add-at c = search needs
@@ -56,17 +56,17 @@ loop-again : tie.Need-loop-again Inv-loop μ-loop
 loop-again c =
     let p = turn (c .before) in
     let v = p .loop .inv in
-    (next (v .0) (omega arith), v .1 ∙ passed-over (start p .args .closed) (here (v .0) (omega arith) _) (sym (c .before .may-go .ensures) ∙ c .if1 .left))
+    (next (v .0) (omega arith), v .1 ∙ passed-over (finds-takeable (start p .args .closed)) (here (v .0) (omega arith) _) (sym (c .before .may-go .ensures) ∙ c .if1 .left))
 
 returns-2 : tie.Need-returns-2 Inv-loop μ-loop
 returns-2 c =
     let p = c .before in
     let v = p .loop .inv in
     let all : p .loop .at ≡ p .before .least .result = omega arith in
-    sym (v .1 ∙ none-taken (start p .args .closed) _ (p .loop .at) (passed-all (v .0) (omega arith)) ∙ all)
+    sym (v .1 ∙ found-none (finds-takeable (start p .args .closed)) _ (p .loop .at) (passed-all (v .0) (omega arith)) ∙ all)
 
-pub oldest-spec : {M : Type 1} → statement M
-oldest-spec =
+pub to-take-spec : {M : Type 1} → statement M
+to-take-spec =
     tie.close
     (tie.spec
     Inv-loop
