@@ -23,6 +23,10 @@ mostRecords = 512
 abbrev pub mostEntries : ℕ
 mostEntries = 512
 
+-- the most octets of a PDU (request Four of document 02)
+abbrev pub mostOctets : ℕ
+mostOctets = 16384
+
 -- ---- what a call leaves
 
 -- a call's answer, and the state after it

@@ -40,7 +40,7 @@ pub record OpenedAlike (L first f : ℕ) (w : World) : Type 0 where
 -- what deliver does; other octets are such as the master refuses. An end is opened again only where that is refused. Sizes are numbers of 32
 -- bits. Everything else may happen at any time.
 abbrev pub Allowed : ℕ → World → Event → Type 0
-Allowed L w (send p) = Unit
+Allowed L w (send p z) = Unit
 Allowed L w (copy i) = (i < length (w .sent)) × (length (w .sent) ≤ i + half L)
 Allowed L w (stray n p) = isDone (K.arrive (w .keeper) n p .answer) ≡ false
 Allowed L w expire = Unit
