@@ -145,7 +145,7 @@ pub record Sends (L : ℕ) (l : Ledger ℕ) (p z : ℕ) : Type 0 where
   pub sized : (1 ≤ z) × (z ≤ mostOctets)
   pub not-highest : p ≡ l .highest → ⊥
   pub follows-oldest : follows l p (drop (l .oldest) (l .entries)) ≡ true
-  pub has-room : length (l .entries) < mostEntries
+  pub not-full : length (l .entries) < mostEntries
 
 pub send-cases : (L p z a : ℕ) (l : Ledger ℕ) → l .bits ≡ L
     → ((isDone (send l p z a .answer) ≡ false) × (send l p z a .state ≡ l))
@@ -174,7 +174,7 @@ send-cases L p z a l e =
             sized = (leb-true 1 z (limits .0), leb-true z mostOctets (limits .1));
             not-highest = λ q. contrary (o .0) (ap not (eq-eqb p (l .highest) q));
             follows-oldest = o .1;
-            has-room = leb-false mostEntries (length (l .entries)) s;
+            not-full = leb-false mostEntries (length (l .entries)) s;
           },
         )
 
@@ -224,7 +224,7 @@ master-sends {L} {first} {cut} {sent} {l} {p} {z} ok m s =
             (a .sent-as))
             (record { numbered = m .next-is; pdcp-is = sym (getD-append-seam sent p [] 0); was-sent = omega (arith, more) }, tt);
         from-cut = each-append _ es (new ∷ []) (a .from-cut) ((λ w. m .cut-sent), tt);
-        most = let h = s .has-room in let e = length-append es (new ∷ []) in omega (arith, e, h);
+        most = let h = s .not-full in let e = length-append es (new ∷ []) in omega (arith, e, h);
       };
       ordered =
           rw (waiting-append es (new ∷ []))
