@@ -54,24 +54,14 @@ module _ {A B : Type 0} (f : A → B) where
       ap (λ (b : Bool). not (eqb p (l .highest)) and b)
       (ap (follows (relabelled l) p) (map-drop entryAs (l .oldest) (l .entries)) ∙ follows-as l p (drop (l .oldest) (l .entries)))
 
-  -- what a send comes to once 9, 10 and 39 are passed
-  abbrev placed : {C : Type 0} → Ledger C → ℕ → ℕ → C → After (Ledger C) ℕ
-  placed l p z a =
-      if not (inOrder l p) then refusing 35 l else
-      if leb mostEntries (length (l .entries)) then refusing 36 l else
-      answering (l .next) (sentState l p z a)
-
-  placed-as : (l : Ledger A) (p z : ℕ) (a : A) → placed (relabelled l) p z (f a) ≡ outcomeAs (placed l p z a)
-  placed-as l p z a =
-      choice outcomeAs (ap not (order-as l p)) refl
-      (choice outcomeAs (ap (leb mostEntries) (length-map (l .entries) entryAs)) refl
-      (ap (λ (es : List (Entry B)). answering (l .next) (sentState l p z a with-entries es)) (sym (entries-append (l .entries) (newEntry (l .next) p z a ∷ [])))))
-
   pub send-as : (l : Ledger A) (p z : ℕ) (a : A) → send (relabelled l) p z (f a) ≡ outcomeAs (send l p z a)
   send-as l p z a =
+      let sent = ap (λ (es : List (Entry B)). answering (l .next) (sentState l p z a with-entries es)) (sym (entries-append (l .entries) (newEntry (l .next) p z a ∷ []))) in
+      let stored = choice outcomeAs {u = refusing 36 l} {v = answering (l .next) (sentState l p z a)} (ap (leb mostEntries) (length-map (l .entries) entryAs)) refl sent in
+      let ordered = choice outcomeAs {u = refusing 35 l} (ap not (order-as l p)) refl stored in
       choice outcomeAs {t = l .closed} refl refl
       (choice outcomeAs {t = not (ltb p (pdcps (l .bits)))} refl refl
-      (choice outcomeAs {t = not (isSize z)} refl refl (placed-as l p z a)))
+      (choice outcomeAs {t = not (isSize z)} refl refl ordered))
 
   -- ---- where the oldest waiting entry stands
 

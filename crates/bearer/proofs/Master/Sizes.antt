@@ -1,7 +1,7 @@
 -- What holds of the sizes in every ledger that calls reach: each entry bears its packet's, which is within its limits; so the sizes of those that
 -- wait are the packets', and added up they stay small.
 -- Assumes nothing.
-use mathlib.Core.Path.{_≡_, refl, sym, _∙_, ap, ap₂}
+use mathlib.Core.Path.{_≡_, refl, sym, _∙_, ap₂}
 use mathlib.Core.Bool.{Bool, true, false}
 use mathlib.Core.List.{List, [], _∷_, _++_}
 use Prim.Native.Nat.{ℕ, _+_, _*_, _-_, _≤_, _<_}
@@ -9,7 +9,7 @@ use native.Mathlib.Omega.{arith}
 use lib.ListN.{length, getD, length-append, List·getD-append}
 use lib.Seq.{getD-append-seam}
 use Rattle.basics.specs.Basics.{if_then_else_}
-use Rattle.bearer.specs.Bearer.{mostEntries, mostOctets}
+use Rattle.bearer.specs.Bearer.{mostOctets}
 use Rattle.bearer.specs.Ledger.{Entry, Ledger, newEntry, waits, waitingSizes, room}
 use Rattle.bearer.specs.Packets.{packets, Each}
 use Rattle.bearer.specs.LedgerMeaning.{Books, waitingIn, octetsOf, roomBy, TurnedLost, FreedThrough, goes, later, is-lost, freed-end, FreedBy, frees-none, frees-through}
