@@ -82,3 +82,6 @@ module _ (l m : Ledger) (same : ledgerIn l ≡ ledgerIn m) where
       → beside (takenAs (s .answer)) (ledgerIn (s .ledger)) ≡ machine.takeOldest (ledgerIn m)
       → (r .answer ≡ s .answer) × (ledgerIn (r .ledger) ≡ ledgerIn (s .ledger))
   one-take r s = alike takenAs same-taken (r .answer) (s .answer) (ledgerIn (r .ledger)) (ledgerIn (s .ledger)) (ap machine.takeOldest same)
+
+  pub one-room : (r s : ℕ) → r ≡ machine.room (ledgerIn l) → s ≡ machine.room (ledgerIn m) → r ≡ s
+  one-room r s x y = x ∙ ap machine.room same ∙ sym y

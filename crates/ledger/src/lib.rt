@@ -172,6 +172,7 @@ pub fn send(l: Ledger, pdcp: u32, size: u32) -> Sending
     ensures { λ r. ⌜ beside (sentAs (r .answer)) (ledgerIn (r .ledger)) ≡ «sendOf» (ledgerIn l) pdcp size tt ⌝ }
 {
     let closed = l.closed;
+    let highest = l.highest;
     if closed {
         return not_sent(l, refusal::CLOSED);
     }
@@ -181,7 +182,7 @@ pub fn send(l: Ledger, pdcp: u32, size: u32) -> Sending
     if !is_size(size) {
         return not_sent(l, refusal::SIZE);
     }
-    if pdcp == l.highest {
+    if pdcp == highest {
         return not_sent(l, refusal::PDCP_ORDER);
     }
     let mut after = l;

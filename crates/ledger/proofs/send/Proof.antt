@@ -30,7 +30,7 @@ bounded k = k .before .before
 
 -- the number isn't H, and how many entries are held is known
 abbrev sized : tie.After-least → tie.Else3
-sized k = k .before .before .before
+sized k = k .before .before
 
 abbrev origin : tie.After-least → tie.Start
 origin k = start (bounded (sized k) .before)
@@ -119,7 +119,7 @@ not-sent-requires-4 c κs = search needs
 
 returns-4 : tie.Need-returns-4
 returns-4 c =
-    let k = c .before .before .before in
+    let k = c .before .before in
     let a = start (bounded k .before) .args in
     c .not-sent4 .ensures ∙ sym (send-order (fit k) (order-highest (ledgerIn (a .l)) (a .pdcp) (c .before .if4 .taken)))
 
@@ -158,8 +158,8 @@ returns-6 c =
 new-entry-requires : tie.Need-new-entry-requires
 new-entry-requires c κs = search needs
 
-mul-t13 : tie.Need-mul-t13
-mul-t13 c = search needs
+mul-t14 : tie.Need-mul-t14
+mul-t14 c = search needs
 
 element-set-from-after : tie.Need-element-set-from-after
 element-set-from-after c = search needs
@@ -207,7 +207,7 @@ send-spec =
     not-sent-requires-6
     returns-6
     new-entry-requires
-    mul-t13
+    mul-t14
     element-set-from-after
     add-after
     is-long-requires
