@@ -198,7 +198,7 @@ pub fn send(l: Ledger, pdcp: u32, size: u32) -> Sending
         return not_sent(l, refusal::ENTRIES);
     }
     let number = l.next;
-    after.entries[n] = ledger_entries::new_entry(number, pdcp, size);
+    after.entries[n] = ledger_entries::new_entry(number, pdcp, size as u16);
     after.count = n + 1;
     after.next = circle::onward(number, 1, circle::is_long(l.bits));
     after.sent = pdcp;
@@ -317,7 +317,7 @@ pub fn take(l: Ledger) -> Taking
         answer: Taken::Packet {
             number: e.number,
             pdcp: e.pdcp,
-            size: e.size,
+            size: e.size as u32,
         },
         ledger: Ledger {
             entries: rest,

@@ -25,7 +25,7 @@ pub enum Fate {
 pub struct Entry {
     pub number: u32,
     pub pdcp: u32,
-    pub size: u32,
+    pub size: u16,
     pub fate: Fate,
 }
 
@@ -38,7 +38,7 @@ pub struct Kept {
 // ---- an entry
 
 // The entry of a send: it waits.
-pub fn new_entry(number: u32, pdcp: u32, size: u32) -> Entry
+pub fn new_entry(number: u32, pdcp: u32, size: u16) -> Entry
     ensures { λ r. ⌜ entryIn r ≡ newEntry number pdcp size tt ⌝ }
 {
     Entry {
@@ -211,7 +211,7 @@ pub fn without(es: [Entry; MOST_ENTRIES], count: usize, at: usize) -> Kept
 fn takes(e: Entry) -> u32
     ensures { λ r. ⌜ r ≡ (if «waitsOf» (entryIn e) then e .size else 0) ⌝ }
 {
-    if waits(e) { e.size } else { 0 }
+    if waits(e) { e.size as u32 } else { 0 }
 }
 
 // What is left of a size when another is taken away: 0 where that is as much or more.

@@ -4,10 +4,12 @@ use mathlib.Core.Bool.{Bool, true, false}
 use mathlib.Core.Logic.{⊎-elim}
 use Prim.Native.Nat.{_+_, _%_, _<_, min}
 use native.Mathlib.Omega.{arith}
-use borrow.Author.Tests.{not-true, not-false}
+use borrow.Author.Tests.{leb-true, not-true, not-false}
+use lib.Dec.{leb}
 use lib.ListN.{length, getD, length-map}
+use Rattle.basics.proofs.Choices.{and-true}
 use Rattle.circle.specs.Lengths.{modulus, pdcps, lengthIn}
-use Rattle.bearer.specs.Bearer.{mostEntries}
+use Rattle.bearer.specs.Bearer.{mostEntries, mostOctets}
 use Rattle.bearer.specs.Ledger.{inOrder}
 use Rattle.ledger_entries.specs.declared.Entry.{Entry}
 use Rattle.ledger_entries.proofs.Entries.{held-length, pushed, slot}
@@ -155,6 +157,13 @@ returns-6 c =
     let n = j .before in
     c .not-sent6 .ensures ∙ sym (send-full (fit (sized n)) (ordered j) (omega (arith, count n, c .before .if7 .taken)))
 
+-- a size within its limits loses nothing
+cast-new-entry : tie.Need-cast-new-entry
+cast-new-entry c =
+    let z = origin (c .before .before) .args .size in
+    let limits = and-true (leb 1 z) (leb z mostOctets) (fit (sized (c .before .before)) .sized) in
+    record { fits = omega (arith, leb-true z mostOctets (limits .1)) }
+
 new-entry-requires : tie.Need-new-entry-requires
 new-entry-requires c κs = search needs
 
@@ -206,6 +215,7 @@ send-spec =
     returns-5
     not-sent-requires-6
     returns-6
+    cast-new-entry
     new-entry-requires
     mul-t14
     element-set-from-after
