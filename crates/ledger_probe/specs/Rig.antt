@@ -56,7 +56,7 @@ number n = n
 abbrev pub rounds : ℕ → ℕ → Ledger Unit → ℕ → ℕ
 rounds p round start turns = total number (sendRound p round start) start 0 turns % 2 ^ 32
 
--- so many packets sent, each to a ledger that has room
+-- so many packets sent, each to a ledger that is not full
 abbrev pub sends : ℕ → ℕ → ℕ
 sends L turns = rounds 0 mostEntries (opened L) turns
 

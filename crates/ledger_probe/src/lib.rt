@@ -17,7 +17,7 @@ struct Told {
 }
 
 // How many packets fill a ledger.
-const ROOM: u32 = ledger_entries::MOST_ENTRIES as u32;
+const FULL: u32 = ledger_entries::MOST_ENTRIES as u32;
 
 // How many packets are sent behind the entries that a ledger has.
 const ROUND: u32 = 16;
@@ -25,12 +25,12 @@ const ROUND: u32 = 16;
 // How many octets each packet has.
 const OCTETS: u32 = 1500;
 
-// Sends so many packets, each into a ledger that has room: an empty one takes the place of a full one.
+// Sends so many packets, each into a ledger that is not full: an empty one takes the place of a full one.
 #[no_mangle]
 pub extern "C" fn probe_ledger_send(bits: u32, turns: u32) -> u32
     ensures { λ r. ⌜ r ≡ sends bits turns ⌝ }
 {
-    send_rounds(filled(bits, 0), 0, ROOM, turns)
+    send_rounds(filled(bits, 0), 0, FULL, turns)
 }
 
 // Sends so many packets, 512 at most, accepts a frame, and then sends so many behind the entries that are left, 16 at a time: the
@@ -55,7 +55,8 @@ pub extern "C" fn probe_ledger_accept(bits: u32, entries: u32, turns: u32, frame
 }
 
 // Sends so many packets, 512 at most, accepts a frame, and then asks so many times for room. Each turn leaves a desired size that is
-// greater by 1, so that no turn asks what another asked, and the compiler can't take the call out of the loop.
+// greater by 1, so that no turn asks what another asked: the compiler then walks the entries in each, and only with no entry adds up
+// without a loop (seen in the code for x86-64).
 #[no_mangle]
 pub extern "C" fn probe_ledger_room(bits: u32, entries: u32, turns: u32, frame: &[u8]) -> u32
     ensures { λ r. ⌜ r ≡ rooms bits entries turns (now (frame .entry)) ⌝ }
@@ -128,11 +129,11 @@ fn room_turns(start: Ledger, turns: u32) -> u32
 fn at_most(entries: u32) -> u32
     ensures { λ r. ⌜ r ≡ min entries mostEntries ⌝ }
 {
-    if entries < ROOM { entries } else { ROOM }
+    if entries < FULL { entries } else { FULL }
 }
 
 // A ledger with so many packets sent, 512 at most, from number 0 and PDCP number 0 on. The compiler takes it into the loop of
-// accepts, by which a frame refused at once takes 120 ns a turn, the copy of a ledger, in place of 2 (measured on x86-64).
+// accepts, by which a frame refused at once takes 180 ns a turn, the copy of a ledger, in place of 2 (measured on x86-64).
 fn filled(bits: u32, entries: u32) -> Ledger
     ensures { λ r. ⌜ ledgerIn r ≡ «filledOf» bits entries ⌝ }
 {
