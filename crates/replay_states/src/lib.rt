@@ -1,5 +1,5 @@
 // An end as it stands, in a line that is laid in an output that has room for any line, and else not at all. A line ends within the
-// output: none is cut. No line is longer than the secondary's, so what room any takes is said here.
+// output: none is cut. No line is longer than the master's, so what room any takes is said here.
 ghost use mathlib.Core.Path.{_≡_};
 ghost use mathlib.Core.List.{_∷_, _++_, map};
 ghost use Prim.Native.Nat.{_+_, _*_, _≤_};
@@ -113,18 +113,19 @@ fn kind_of_fate(fate: Fate) -> u8
     }
 }
 
-// An entry, with a mark before it.
+// An entry, with a mark before it: the packet, and its size.
 fn put_entry(mark: u8, e: Entry, out: &mut [u8], at: usize) -> usize
-    ensures { λ r. ⌜ Puts (now (out .entry)) at (mark ∷ entryText (entryIn e)) r (now (out .exit)) 24 ⌝ }
+    ensures { λ r. ⌜ Puts (now (out .entry)) at (mark ∷ entryText (entryIn e)) r (now (out .exit)) 35 ⌝ }
 {
     let fate = e.fate;
-    put_packet(mark, e.number, e.pdcp, kind_of_fate(fate), out, at)
+    let at = put_packet(mark, e.number, e.pdcp, kind_of_fate(fate), out, at);
+    replay_parts::put_behind(COLON, e.size, out, at)
 }
 
 // The field of the entries, with a tab before it.
 fn put_entries(entries: [Entry; MOST_ENTRIES], n: usize, out: &mut [u8], at: usize) -> usize
     requires { ⌜ n ≤ mostEntries ⌝ }
-    ensures { λ r. ⌜ Puts (now (out .entry)) at (tab ∷ joined (map entryText (entriesIn entries n))) r (now (out .exit)) (5 + n * 24) ⌝ }
+    ensures { λ r. ⌜ Puts (now (out .entry)) at (tab ∷ joined (map entryText (entriesIn entries n))) r (now (out .exit)) (5 + n * 35) ⌝ }
 {
     if n == 0 {
         return lister_text::lay_text(b"\tnone", out, at);
