@@ -138,7 +138,7 @@ OutOfOrder L f b waiting p = (p ≡ b .highest → ⊥) × FollowsOldest L f b w
 abbrev pub NoSize : ℕ → Type 0
 NoSize z = (z < 1) ⊎ (16384 < z)
 
--- "Send: 9, 10, 35, 36.", and 39 "after 10 in send"
+-- "Send: 9, 10, 39, 35, 36." as request Four leaves it, 39 "after 10 in send"
 abbrev pub sendRefusals : ℕ → ℕ → Books → List ℕ → List ℕ → ℕ → ℕ → List Refusal
 sendRefusals L f b waiting lost p z =
     (9 when (b .final ≡ true))

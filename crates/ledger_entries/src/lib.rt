@@ -21,8 +21,8 @@ pub enum Fate {
     Lost,
 }
 
-// A packet that went out: its two numbers, the PDU's size in octets, and its fate. A size has 16 bits, so that an entry has 12 octets:
-// with 16 a send takes five times as long (docs/PERFORMANCE.md).
+// A packet that went out: its two numbers, the PDU's size in octets, and its fate. A size has 16 bits, so that an entry has 12
+// octets as it had without one: a send copies all of them.
 pub struct Entry {
     pub number: u32,
     pub pdcp: u32,

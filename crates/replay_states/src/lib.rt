@@ -1,5 +1,5 @@
 // An end as it stands, in a line that is laid in an output that has room for any line, and else not at all. A line ends within the
-// output: none is cut. No line is longer than the master's, so what room any takes is said here.
+// output: none is cut. No line is longer than the secondary's, so what room any takes is said here.
 ghost use mathlib.Core.Path.{_≡_};
 ghost use mathlib.Core.List.{_∷_, _++_, map};
 ghost use Prim.Native.Nat.{_+_, _*_, _≤_};
@@ -119,7 +119,7 @@ fn put_entry(mark: u8, e: Entry, out: &mut [u8], at: usize) -> usize
 {
     let fate = e.fate;
     let at = put_packet(mark, e.number, e.pdcp, kind_of_fate(fate), out, at);
-    replay_parts::put_behind(COLON, e.size, out, at)
+    replay_parts::put_behind(COLON, e.size as u32, out, at)
 }
 
 // The field of the entries, with a tab before it.
