@@ -56,7 +56,7 @@ pub data Case : Type 0 where
   -- nothing is taken from a master: the refusal
   not-taken : Outcome (G.Ledger Unit) → ℕ → Case
   -- octets are accepted by a master: the desired and the minimum size that it holds afterwards
-  sizes : Outcome (G.Ledger Unit) → List ℕ → ℕ → ℕ → Case
+  status-sizes : Outcome (G.Ledger Unit) → List ℕ → ℕ → ℕ → Case
 
 -- ---- what the cases say
 
@@ -110,7 +110,7 @@ Holds (turns l ts) = Of l (λ o. TurnsAnswered o ts)
 Holds (not-opened L first f n) = (K.openKeeper L first f ≡ refused n) × (G.openLedger {A = Unit} L first f ≡ refused n)
 Holds (not-accepted l s n) = Of l (λ o. G.accept o s .answer ≡ refused n)
 Holds (not-taken l n) = Of l (λ o. G.takeOldest o .answer ≡ refused n)
-Holds (sizes l s desired minimum) = Of l (λ o. (G.accept o s .state .desired ≡ desired) × (G.accept o s .state .minimum ≡ minimum))
+Holds (status-sizes l s desired minimum) = Of l (λ o. (G.accept o s .state .desired ≡ desired) × (G.accept o s .state .minimum ≡ minimum))
 
 -- every case of a table holds
 abbrev pub AllHold : List Case → Type 0
@@ -334,16 +334,22 @@ rested =
 -- sizes and room (request Four)
 abbrev pub bytes : List Case
 bytes =
-    -- sizes of 1 to 16,384 octets; no room before any status
-    turns (G.openLedger 12 0 0) (puts 0 0 (refused 39) ∷ puts 0 16385 (refused 39) ∷ puts 0 1 (done 0) ∷ puts 1 16384 (done 1) ∷ has-room 0 ∷ [])
+    -- sizes of 1 to 16,384 octets; no room before any status, nothing sent or something; a PDU beyond the room is sent
+    turns (G.openLedger 12 0 0) (has-room 0 ∷ puts 0 0 (refused 39) ∷ puts 0 16385 (refused 39) ∷ puts 0 65537 (refused 39) ∷ puts 0 1 (done 0) ∷ puts 1 16384 (done 1) ∷ has-room 0 ∷ accepts (wants 4095 16386) (counts 0 0) ∷ has-room 1 ∷ puts 2 16384 (done 2) ∷ has-room 0 ∷ [])
     -- the desired size, and not the minimum, less what waits; 0 where both are the same or less is desired; the last status counts
     ∷ turns (G.openLedger 12 0 0) (puts 0 100 (done 0) ∷ accepts (wants 4095 151) (counts 0 0) ∷ puts 1 50 (done 1) ∷ has-room 1 ∷ accepts (wants 4095 150) (counts 0 0) ∷ has-room 0 ∷ accepts (wants 4095 149) (counts 0 0) ∷ has-room 0 ∷ accepts (wants 4095 200) (counts 0 0) ∷ has-room 50 ∷ [])
-    -- a refused status changes no room, nor does a refused send
-    ∷ turns (G.openLedger 12 0 0) (accepts (wants 4095 200) (counts 0 0) ∷ accepts (wants 5 900) (refused 34) ∷ has-room 200 ∷ puts 0 16385 (refused 39) ∷ puts 4095 8 (refused 35) ∷ has-room 200 ∷ [])
+    -- a refused status changes no room, nor does a refused send; less is desired than the minimum, and nothing
+    ∷ turns (G.openLedger 12 0 0) (accepts (wants 4095 200) (counts 0 0) ∷ accepts (wants 5 900) (refused 34) ∷ accepts (loses 9 900) (refused 33) ∷ has-room 200 ∷ puts 0 16385 (refused 39) ∷ puts 4095 8 (refused 35) ∷ has-room 200 ∷ accepts (wants 4095 5) (counts 0 0) ∷ has-room 5 ∷ accepts (wants 4095 0) (counts 0 0) ∷ has-room 0 ∷ [])
     -- lost ones don't count, taken or not, nor do freed ones; a take answers the size of what it takes
     ∷ turns (G.openLedger 12 0 0) (puts 0 100 (done 0) ∷ puts 1 50 (done 1) ∷ puts 2 7 (done 2) ∷ accepts (loses 1 1000) (counts 0 1) ∷ has-room 893 ∷ takes (taken-of 1 1 50) ∷ has-room 893 ∷ accepts (wants 0 1000) (counts 1 0) ∷ has-room 993 ∷ [])
     -- a closed end has room, and what is taken of it as waiting counts no more
     ∷ turns (G.openLedger 12 0 0) (puts 0 100 (done 0) ∷ puts 1 50 (done 1) ∷ accepts (ends 1000) ended ∷ has-room 850 ∷ takes (taken-of 0 0 100) ∷ has-room 950 ∷ takes (taken-of 1 1 50) ∷ takes (refused 38) ∷ has-room 1000 ∷ [])
+    -- lost ones don't count there either; a status that is refused with 9 changes nothing
+    ∷ turns (G.openLedger 12 0 0) (puts 0 100 (done 0) ∷ puts 1 50 (done 1) ∷ puts 2 7 (done 2) ∷ accepts (loses 1 900) (counts 0 1) ∷ accepts (ends 1000) ended ∷ has-room 893 ∷ takes (taken-of 0 0 100) ∷ takes (taken-of 1 1 50) ∷ accepts (wants 4095 5) (refused 9) ∷ has-room 993 ∷ takes (taken-of 2 2 7) ∷ has-room 1000 ∷ [])
+    -- a PDU that is sent again has its own size each time
+    ∷ turns (G.openLedger 12 0 0) (puts 5 10 (done 0) ∷ accepts (loses 0 100) (counts 0 1) ∷ puts 5 20 (done 1) ∷ has-room 80 ∷ takes (taken-of 0 5 10) ∷ has-room 80 ∷ [])
+    -- the long form, over the rollover of the X2-U numbers
+    ∷ turns (G.openLedger 18 16777215 0) (puts 0 16385 (refused 39) ∷ puts 0 100 (done 16777215) ∷ puts 1 50 (done 0) ∷ accepts (0x20 ∷ 0x03 ∷ 0xFF ∷ 0xFF ∷ desiring 151 ++ replicate 2 0) (counts 0 0) ∷ has-room 1 ∷ [])
     -- the most that waits, and the most that is desired
     ∷ turns (done (filled 512)) (has-room 0 ∷ accepts (wants 0 4294967295) (counts 0 0) ∷ has-room 4286578687 ∷ accepts (wants 0 8388608) (counts 0 0) ∷ has-room 0 ∷ [])
     ∷ []
@@ -351,7 +357,7 @@ bytes =
 -- a master holds the two sizes in their order; the stores of runs, of records and of entries; Final where 162 runs are listed, and 163
 abbrev pub stores : List Case
 stores =
-    sizes (G.openLedger 12 0 121) (0x10 ∷ 0x00 ∷ 0x78 ∷ size-octets ++ replicate 3 0) 65536 4096
+    status-sizes (G.openLedger 12 0 121) (0x10 ∷ 0x00 ∷ 0x78 ∷ size-octets ++ replicate 3 0) 65536 4096
     ∷ secondary (done (listing 255)) (arrives 1256 0 (done 1) ∷ []) 1001
     ∷ secondary (done (listing 256)) (arrives 1256 0 (refused 14) ∷ []) 1000
     ∷ secondary (done (recording 511)) (arrives 1000 0 (done 0) ∷ []) 1001
@@ -403,9 +409,9 @@ secondary-orders =
 -- those of the master
 abbrev pub master-orders : List Case
 master-orders =
-    -- send: 9 before 10 and 39, 10 before 39 and 35, 39 before 35 and 36, 35 before 36
+    -- send: 9 before 10 and 39, 10 before 39 and (with an entry waiting) 35, 39 before 35 and 36, 35 before 36
     turns (done closed) (puts 4096 1 (refused 9) ∷ puts 1 0 (refused 9) ∷ [])
-    ∷ turns (G.openLedger 12 0 0) (puts 8191 0 (refused 10) ∷ puts 8191 1 (refused 10) ∷ puts 4095 0 (refused 39) ∷ puts 4095 16385 (refused 39) ∷ [])
+    ∷ turns (G.openLedger 12 0 0) (puts 8191 0 (refused 10) ∷ puts 4095 0 (refused 39) ∷ puts 4095 16385 (refused 39) ∷ puts 5 1 (done 0) ∷ puts 4101 1 (refused 10) ∷ [])
     ∷ turns (done (filled 512)) (puts 1000 0 (refused 39) ∷ [])
     ∷ master (done (filled 512)) 999 (refused 35)
     -- accept: 9 before 1, 6 before 31, 31 before 32, 32 before 33, 33 before 34, 34
@@ -444,7 +450,7 @@ rested-hold : AllHold rested
 rested-hold = ((refl, (refl, (refl, (refl, (refl, (refl, tt)))))), ((refl, (refl, (refl, (refl, (refl, tt))))), ((refl, (refl, (refl, (refl, tt)))), ((refl, (refl, (refl, (refl, (refl, (refl, tt)))))), ((refl, (refl, (refl, (refl, (refl, (refl, tt)))))), ((refl, (refl, (refl, (refl, tt)))), ((refl, (refl, (refl, (refl, (refl, (refl, (refl, tt))))))), ((refl, (refl, (refl, (refl, (refl, (refl, (refl, tt))))))), ((refl, (refl, (refl, (refl, (refl, tt))))), ((refl, (refl, (refl, (refl, (refl, (refl, (refl, tt))))))), ((refl, (refl, (refl, (refl, (refl, (refl, (refl, tt))))))), tt)))))))))))
 
 bytes-hold : AllHold bytes
-bytes-hold = ((refl, (refl, (refl, (refl, (refl, tt))))), ((refl, (refl, (refl, (refl, (refl, (refl, (refl, (refl, (refl, (refl, tt)))))))))), ((refl, (refl, (refl, (refl, (refl, (refl, tt)))))), ((refl, (refl, (refl, (refl, (refl, (refl, (refl, (refl, (refl, tt))))))))), ((refl, (refl, (refl, (refl, (refl, (refl, (refl, (refl, (refl, tt))))))))), ((refl, (refl, (refl, (refl, (refl, tt))))), tt))))))
+bytes-hold = ((refl, (refl, (refl, (refl, (refl, (refl, (refl, (refl, (refl, (refl, (refl, tt))))))))))), ((refl, (refl, (refl, (refl, (refl, (refl, (refl, (refl, (refl, (refl, tt)))))))))), ((refl, (refl, (refl, (refl, (refl, (refl, (refl, (refl, (refl, (refl, (refl, tt))))))))))), ((refl, (refl, (refl, (refl, (refl, (refl, (refl, (refl, (refl, tt))))))))), ((refl, (refl, (refl, (refl, (refl, (refl, (refl, (refl, (refl, tt))))))))), ((refl, (refl, (refl, (refl, (refl, (refl, (refl, (refl, (refl, (refl, (refl, (refl, tt)))))))))))), ((refl, (refl, (refl, (refl, (refl, (refl, tt)))))), ((refl, (refl, (refl, (refl, (refl, tt))))), ((refl, (refl, (refl, (refl, (refl, tt))))), tt)))))))))
 
 stores-hold : AllHold stores
 stores-hold = ((refl, refl), ((refl, refl), ((refl, refl), ((refl, refl), ((refl, refl), (refl, (refl, ((refl, refl), ((refl, refl), tt)))))))))
@@ -456,7 +462,7 @@ secondary-orders-hold : AllHold secondary-orders
 secondary-orders-hold = ((refl, refl), ((refl, refl), ((refl, (refl, (refl, refl))), ((refl, (refl, (refl, (refl, refl)))), ((refl, refl), ((refl, (refl, refl)), ((refl, refl), ((refl, refl), ((refl, refl), ((refl, refl), ((refl, (refl, refl)), ((refl, refl), ((refl, (refl, refl)), tt)))))))))))))
 
 master-orders-hold : AllHold master-orders
-master-orders-hold = ((refl, (refl, tt)), ((refl, (refl, (refl, (refl, tt)))), ((refl, tt), (refl, (refl, (refl, (refl, (refl, (refl, (refl, (refl, tt)))))))))))
+master-orders-hold = ((refl, (refl, tt)), ((refl, (refl, (refl, (refl, (refl, tt))))), ((refl, tt), (refl, (refl, (refl, (refl, (refl, (refl, (refl, (refl, tt)))))))))))
 
 -- every case holds
 pub all-hold : PartsHold cases

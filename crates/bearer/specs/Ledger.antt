@@ -13,7 +13,7 @@ use Rattle.basics.specs.Basics.{if_then_else_, _and_, _or_, alike, Outcome, don
 use Rattle.circle.specs.Circle.{forward}
 use Rattle.circle.specs.Lengths.{isLength, isLong, modulusOf, pdcps, pdcpBefore}
 use Rattle.frame_layout.specs.Frames.{Range, Status, Reading, data-of, status-of, refuse, readFrame}
-use Rattle.bearer.specs.Bearer.{mostEntries, mostOctets, After, refusing, answering}
+use Rattle.bearer.specs.Bearer.{mostEntries, mostSize, After, refusing, answering}
 
 -- what became of a packet that the master still holds
 pub data Fate : Type 0 where
@@ -143,7 +143,7 @@ inOrder l p = not (eqb p (l .highest)) and follows l p (drop (l .oldest) (l .ent
 
 -- a PDU's size is within its limits, 1 to 16,384 octets
 abbrev pub isSize : ℕ → Bool
-isSize z = leb 1 z and leb z mostOctets
+isSize z = leb 1 z and leb z mostSize
 
 -- the entry of a send: it waits
 abbrev pub newEntry : {A : Type 0} → ℕ → ℕ → ℕ → A → Entry A

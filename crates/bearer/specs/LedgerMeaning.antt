@@ -130,7 +130,7 @@ roomBy b ws = if b .heard then b .desired - octetsOf b ws else 0
 pub record LedgerMeans (L first f : ℕ) (l : Ledger ℕ) (b : Books) : Type 0 where
   -- the bearer's L
   pub same-length : l .bits ≡ L
-  -- H, the last PDCP number sent and both sizes are the books'; the end is closed exactly if an accepted frame had Final
+  -- H, the last PDCP number sent and both sizes of the last status are the books'; the end is closed exactly if an accepted frame had Final
   pub highest-is : l .highest ≡ b .highest
   pub last-is : l .sent ≡ lastSent L f b
   pub desired-is : l .desired ≡ b .desired

@@ -14,7 +14,7 @@ pub use ledger_entries::Fate;
 use ledger_entries::MOST_ENTRIES;
 
 // How many octets a PDU has at most (refusal 39).
-const MOST_OCTETS: u32 = 16384;
+const MOST_SIZE: u32 = 16384;
 
 // The master's end: the entries and how many they are, L, the next X2-U number, the highest last accepted, the last PDCP
 // number sent, whether it is closed, both sizes of the last status, and where the oldest waiting entry stands (behind all
@@ -138,7 +138,7 @@ fn is_size(size: u32) -> bool
     if size < 1 {
         return false;
     }
-    size <= MOST_OCTETS
+    size <= MOST_SIZE
 }
 
 // Whether a PDCP number follows, seen from that of the oldest waiting entry: past the last sent, and less than half the PDCP

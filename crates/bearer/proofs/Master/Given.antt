@@ -22,7 +22,7 @@ use Rattle.frame_layout.proofs.Forms.{types-apart}
 use Rattle.frame_layout.proofs.Octets.{rangesAt-inForm}
 use Rattle.frame_layout.proofs.Read.{Read, as-data, as-status, frame-read}
 use Rattle.frame_layout.proofs.Refusals.{reads-given}
-use Rattle.bearer.specs.Bearer.{mostEntries, mostOctets}
+use Rattle.bearer.specs.Bearer.{mostEntries, mostSize}
 use Rattle.bearer.specs.Ledger.{Entry, Ledger, waits, follows, inOrder, isSize, send, markLost, acceptReading, accept, takeAt, takeFrom, takeOldest}
 use Rattle.bearer.specs.Packets.{packets, Each}
 use Rattle.bearer.specs.LedgerMeaning.{Books, LedgerReached, waitingIn, lostIn}
@@ -60,7 +60,7 @@ module _ {L first f : ℕ} {l : Ledger ℕ} {b : Books} (x : LedgerReached L fir
 
   -- 39
   size-says : (z : ℕ) → Says (not (isSize z)) (NoSize z)
-  size-says z = says-not-both (leb 1 z) (leb z mostOctets) (says-more 1 z) (says-more z mostOctets)
+  size-says z = says-not-both (leb 1 z) (leb z mostSize) (says-more 1 z) (says-more z mostSize)
 
   -- 35
   order-says : (p : ℕ) → Says (not (inOrder l p)) (OutOfOrder L f b (waitingOf (l .entries)) p)

@@ -9,7 +9,7 @@ use native.Mathlib.Omega.{arith}
 use lib.ListN.{length, getD, length-append, List·getD-append}
 use lib.Seq.{getD-append-seam}
 use Rattle.basics.specs.Basics.{if_then_else_}
-use Rattle.bearer.specs.Bearer.{mostOctets}
+use Rattle.bearer.specs.Bearer.{mostSize}
 use Rattle.bearer.specs.Ledger.{Entry, Ledger, newEntry, waits, waitingSizes, room}
 use Rattle.bearer.specs.Packets.{packets, Each}
 use Rattle.bearer.specs.LedgerMeaning.{Books, waitingIn, octetsOf, roomBy, TurnedLost, FreedThrough, goes, later, is-lost, freed-end, FreedBy, frees-none, frees-through}
@@ -19,13 +19,13 @@ use Rattle.bearer.proofs.Master.Applied.{each-turned}
 -- an entry bears its packet's size, which is within its limits
 pub record SizedAs (sizes : List ℕ) (e : Entry ℕ) : Type 0 where
   pub size-is : e .size ≡ getD sizes (e .label) 0
-  pub within : (1 ≤ e .size) × (e .size ≤ mostOctets)
+  pub within : (1 ≤ e .size) × (e .size ≤ mostSize)
   pub was-sent : e .label < length sizes
 
 -- ---- the calls
 
 -- a send puts its own behind the others
-pub sized-sends : (sizes : List ℕ) (es : List (Entry ℕ)) (n p z : ℕ) → (1 ≤ z) × (z ≤ mostOctets) → Each (SizedAs sizes) es
+pub sized-sends : (sizes : List ℕ) (es : List (Entry ℕ)) (n p z : ℕ) → (1 ≤ z) × (z ≤ mostSize) → Each (SizedAs sizes) es
     → Each (SizedAs (sizes ++ (z ∷ []))) (es ++ (newEntry n p z (length sizes) ∷ []))
 sized-sends sizes es n p z limits a =
     let more = length-append sizes (z ∷ []) in
@@ -63,11 +63,11 @@ sizes-of-waiting b (e ∷ es) a = go (waits e) (sizes-of-waiting b es (a .1))
     go false r = r
 
 -- and as many times the largest size at most
-pub sizes-few : (sizes : List ℕ) (es : List (Entry ℕ)) → Each (SizedAs sizes) es → waitingSizes es ≤ length es * mostOctets
+pub sizes-few : (sizes : List ℕ) (es : List (Entry ℕ)) → Each (SizedAs sizes) es → waitingSizes es ≤ length es * mostSize
 sizes-few sizes [] a = omega arith
 sizes-few sizes (e ∷ es) a = go (waits e) (sizes-few sizes es (a .1)) (a .0 .within .1)
   where
-    go : (w : Bool) → waitingSizes es ≤ length es * mostOctets → e .size ≤ mostOctets → (if w then e .size + waitingSizes es else waitingSizes es) ≤ length (e ∷ es) * mostOctets
+    go : (w : Bool) → waitingSizes es ≤ length es * mostSize → e .size ≤ mostSize → (if w then e .size + waitingSizes es else waitingSizes es) ≤ length (e ∷ es) * mostSize
     go true r s = omega arith
     go false r s = omega arith
 

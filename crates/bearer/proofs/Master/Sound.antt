@@ -15,7 +15,7 @@ use lib.Seq.{getD-append-seam}
 use Rattle.basics.specs.Basics.{if_then_else_, isDone}
 use Rattle.basics.proofs.Choices.{tested, contrary, and-true}
 use Rattle.circle.specs.Lengths.{isLength, modulusOf, pdcps}
-use Rattle.bearer.specs.Bearer.{mostEntries, mostOctets}
+use Rattle.bearer.specs.Bearer.{mostEntries, mostSize}
 use Rattle.bearer.specs.Ledger.{Entry, Ledger, newEntry, waits, waitingAt, pdcpsTo, pastLast, withinHalf, follows, inOrder, isSize, send, sentState}
 use Rattle.bearer.specs.Packets.{numberOf, packets, Rising, In, Each}
 use Rattle.bearer.specs.LedgerMeaning.{waitingIn}
@@ -142,7 +142,7 @@ waiting-append (e ∷ a) b = go (waits e) (waiting-append a b)
 pub record Sends (L : ℕ) (l : Ledger ℕ) (p z : ℕ) : Type 0 where
   pub open-end : l .closed ≡ false
   pub fits : p < pdcps L
-  pub sized : (1 ≤ z) × (z ≤ mostOctets)
+  pub sized : (1 ≤ z) × (z ≤ mostSize)
   pub not-highest : p ≡ l .highest → ⊥
   pub follows-oldest : follows l p (drop (l .oldest) (l .entries)) ≡ true
   pub not-full : length (l .entries) < mostEntries
@@ -164,14 +164,14 @@ send-cases L p z a l e =
     go (inr c) (inl t) (inl i) (inl u) (inl s) = inl (rw (u, i, c, t, s), rw (u, i, c, t, s))
     go (inr c) (inl t) (inl i) (inl u) (inr s) =
         let o = and-true (not (eqb p (l .highest))) (follows l p (drop (l .oldest) (l .entries))) u in
-        let limits = and-true (leb 1 z) (leb z mostOctets) i in
+        let limits = and-true (leb 1 z) (leb z mostSize) i in
         inr (
           rw (u, i, c, t, s),
           rw (u, i, c, t, s),
           record {
             open-end = c;
             fits = rw e at (ltb-true p (pdcps (l .bits)) t);
-            sized = (leb-true 1 z (limits .0), leb-true z mostOctets (limits .1));
+            sized = (leb-true 1 z (limits .0), leb-true z mostSize (limits .1));
             not-highest = λ q. contrary (o .0) (ap not (eq-eqb p (l .highest) q));
             follows-oldest = o .1;
             not-full = leb-false mostEntries (length (l .entries)) s;

@@ -9,7 +9,7 @@ use lib.Dec.{leb}
 use lib.ListN.{length, getD, length-map}
 use Rattle.basics.proofs.Choices.{and-true}
 use Rattle.circle.specs.Lengths.{modulus, pdcps, lengthIn}
-use Rattle.bearer.specs.Bearer.{mostEntries, mostOctets}
+use Rattle.bearer.specs.Bearer.{mostEntries, mostSize}
 use Rattle.bearer.specs.Ledger.{inOrder}
 use Rattle.ledger_entries.specs.declared.Entry.{Entry}
 use Rattle.ledger_entries.proofs.Entries.{held-length, pushed, slot}
@@ -161,8 +161,8 @@ returns-6 c =
 cast-new-entry : tie.Need-cast-new-entry
 cast-new-entry c =
     let z = origin (c .before .before) .args .size in
-    let limits = and-true (leb 1 z) (leb z mostOctets) (fit (sized (c .before .before)) .sized) in
-    record { fits = omega (arith, leb-true z mostOctets (limits .1)) }
+    let limits = and-true (leb 1 z) (leb z mostSize) (fit (sized (c .before .before)) .sized) in
+    record { fits = omega (arith, leb-true z mostSize (limits .1)) }
 
 new-entry-requires : tie.Need-new-entry-requires
 new-entry-requires c κs = search needs
