@@ -101,7 +101,7 @@ impl Side for Rust {
             if at == 0 {
                 ledger = open();
             }
-            sum = sum.wrapping_add(ledger.send(at).expect("benchmarks send in order"));
+            sum = sum.wrapping_add(ledger.send(at, 1_500).expect("benchmarks send in order"));
         }
         sum
     }
@@ -110,7 +110,7 @@ impl Side for Rust {
     fn accepts(pdcp_bits: u32, entries: u32, turns: u32, octets: &[u8]) -> u32 {
         let mut ledger = Ledger::open(pdcp_bits, 0, 0).expect("benchmarks open well");
         for pdcp in 0..entries {
-            ledger.send(pdcp).expect("benchmarks send in order");
+            ledger.send(pdcp, 1_500).expect("benchmarks send in order");
         }
         let mut last = 0;
         for _ in 0..turns {
@@ -126,7 +126,7 @@ impl Side for Rust {
     fn sends_behind(pdcp_bits: u32, entries: u32, turns: u32, octets: &[u8]) -> u32 {
         let mut start = Ledger::open(pdcp_bits, 0, 0).expect("benchmarks open well");
         for pdcp in 0..entries {
-            start.send(pdcp).expect("benchmarks send in order");
+            start.send(pdcp, 1_500).expect("benchmarks send in order");
         }
         start.accept(octets).expect("the frame is accepted");
         let mut ledger = start.clone();
@@ -136,7 +136,7 @@ impl Side for Rust {
             if at == 0 {
                 ledger.clone_from(&start);
             }
-            let sent = ledger.send(entries + at);
+            let sent = ledger.send(entries + at, 1_500);
             sum = sum.wrapping_add(sent.expect("benchmarks send in order"));
         }
         sum

@@ -73,10 +73,10 @@ impl Bench {
         alike.then_some(()).ok_or(Trouble::Differs)
     }
 
-    /// Sends a packet.
-    pub fn send(&mut self, pdcp: u32) -> Seen<u32> {
-        let answered = self.pair.send(pdcp).map_err(Trouble::Demand)?;
-        self.tell(Call::Send(pdcp), answered, answer::sent)?;
+    /// Sends a packet whose PDU has `size` octets.
+    pub fn send(&mut self, pdcp: u32, size: u32) -> Seen<u32> {
+        let answered = self.pair.send(pdcp, size).map_err(Trouble::Demand)?;
+        self.tell(Call::Send([pdcp, size]), answered, answer::sent)?;
         Ok(answered)
     }
 
@@ -177,6 +177,7 @@ fn word_of(call: &Call<'_>) -> &'static str {
         Call::Send(_) => "send",
         Call::Accept(_) => "accept",
         Call::Take => "take",
+        Call::Room => "room",
         Call::Keeper => "keeper",
         Call::Ledger => "ledger",
     }

@@ -161,7 +161,7 @@ impl Play {
         }
         while !self.weather.holds_sending() && self.source.has_packet() {
             let pdcp = (self.next_pdcp % self.opening.pdcps()) as u32;
-            match self.bench.send(pdcp)? {
+            match self.bench.send(pdcp, 1_400)? {
                 Ok(number) => self.went_out(number),
                 Err(Refusal::PdcpOrder) if pdcp == self.bench.pair.ledger.highest() => {
                     self.pass_highest();
