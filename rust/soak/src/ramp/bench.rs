@@ -19,6 +19,8 @@ pub enum Trouble {
     Start(String),
     /// Demand 3 is violated.
     Demand(String),
+    /// The library's room isn't that of the packets.
+    Room(String),
     /// The program and the library differ; the link knows where.
     Differs,
 }
@@ -143,6 +145,16 @@ impl Bench {
         let answered = self.pair.take().map_err(Trouble::Demand)?;
         self.tell(Call::Take, answered, answer::taken)?;
         Ok(answered)
+    }
+
+    /// The master is asked for the room.
+    pub fn room(&mut self) -> Result<u32, Trouble> {
+        let room = self.pair.room().map_err(Trouble::Room)?;
+        self.calls += 1;
+        let alike = self
+            .link
+            .call(|out| Call::Room.print(out), |out| answer::room(room, out));
+        alike.then_some(room).ok_or(Trouble::Differs)
     }
 
     /// Shows both ends, so that all they hold is compared.
