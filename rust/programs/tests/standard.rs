@@ -56,8 +56,10 @@ fn conversation(program: &str, lines: &[&str]) -> Vec<String> {
 
 #[test]
 fn each_answer_comes_at_once() {
-    let answers = conversation(REPLAY, &["open\t12\t5\t6", "send\t6", "send\t6", "take"]);
-    assert_eq!(answers, ["ok", "sent\t5", "refused\t35", "refused\t38"]);
+    let lines = ["open\t12\t5\t6", "send\t6\t1", "send\t6\t1", "take", "room"];
+    let answers = conversation(REPLAY, &lines);
+    let wanted = ["ok", "sent\t5", "refused\t35", "refused\t38", "room\t0"];
+    assert_eq!(answers, wanted);
     let answers = conversation(LISTER, &["001234000000", "zz"]);
     assert_eq!(answers, ["0\t4660", "unreadable"]);
 }
