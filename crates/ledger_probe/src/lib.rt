@@ -133,7 +133,7 @@ fn at_most(entries: u32) -> u32
 }
 
 // A ledger with so many packets sent, 512 at most, from number 0 and PDCP number 0 on. The compiler takes it into the loop of
-// accepts, by which a frame refused at once takes 180 ns a turn, the copy of a ledger, in place of 2 (measured on x86-64).
+// accepts, by which a frame refused at once takes 120 ns a turn, the copy of a ledger, in place of 2 (measured on x86-64).
 fn filled(bits: u32, entries: u32) -> Ledger
     ensures { λ r. ⌜ ledgerIn r ≡ «filledOf» bits entries ⌝ }
 {
