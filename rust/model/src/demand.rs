@@ -59,7 +59,7 @@ const NEVER: u32 = u32::MAX;
 #[derive(Clone, Copy, Debug)]
 struct Packet {
     pdcp: u32,
-    size: u32,
+    size: u16,
     fate: Fate,
     /// The first frame k with this packet in C(k) or in R(k).
     frame: u32,
@@ -205,7 +205,7 @@ impl Watch {
     /// The size of a packet's PDU.
     #[must_use]
     pub fn size(&self, packet: usize) -> u32 {
-        self.packets[packet].size
+        self.packets[packet].size.into()
     }
 
     /// A send was accepted.
@@ -221,7 +221,7 @@ impl Watch {
         self.tally.octets.sent += u64::from(size);
         self.packets.push(Packet {
             pdcp,
-            size,
+            size: size as u16,
             fate: Fate::Open,
             frame: NEVER,
             taken: false,
@@ -398,7 +398,7 @@ impl Watch {
             .find(|&packet| closed || self.is_named(packet));
         let expected = oldest
             .map(|packet| self.entry(packet))
-            .map(|entry| (entry.number, entry.pdcp, entry.size))
+            .map(|entry| (entry.number, entry.pdcp, entry.size.into()))
             .ok_or(Refusal::NothingToTake);
         check!(answer == expected, "take gave {answer:?}, not {expected:?}");
         if let Some(packet) = oldest {
@@ -511,7 +511,7 @@ impl Watch {
         Entry {
             number: self.opening.number(packet),
             pdcp: self.packets[packet].pdcp,
-            size: self.size(packet),
+            size: self.packets[packet].size,
             fate: if named { Held::Lost } else { Held::Waiting },
         }
     }

@@ -124,7 +124,7 @@ impl Pair {
     pub fn take(&mut self) -> Watched<Entry> {
         let closed = self.ledger.is_closed();
         let answer = self.ledger.take();
-        let taken = answer.map(|entry| (entry.number, entry.pdcp, entry.size));
+        let taken = answer.map(|entry| (entry.number, entry.pdcp, entry.size.into()));
         self.watch.taken(closed, taken)?;
         Ok(answer)
     }

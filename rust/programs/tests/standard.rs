@@ -90,8 +90,12 @@ fn a_folder_is_told() {
 fn a_closed_pipe_is_told() {
     for (name, program) in BOTH {
         let mut gone = Command::new("true").stdin(Stdio::piped()).spawn().unwrap();
-        let pipe = gone.stdin.take().unwrap();
+        let mut pipe = gone.stdin.take().unwrap();
         gone.wait().unwrap();
+        // What another test starts just now may hold its other end for a moment.
+        while pipe.write_all(b"\n").is_ok() {
+            thread::sleep(Duration::from_millis(1));
+        }
         let input = file(&format!("{name}.pipe"), "take\n");
         let output = run(program, input.into(), pipe.into());
         let said = "lines answered: 0; writing failed, error 32: Broken pipe";

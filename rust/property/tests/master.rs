@@ -197,7 +197,7 @@ impl Test {
             Call::Take(count) => {
                 for _ in 0..*count {
                     let taken = self.ledger.take();
-                    let taken = taken.map(|entry| (entry.number, entry.pdcp, entry.size));
+                    let taken = taken.map(|entry| (entry.number, entry.pdcp, entry.size.into()));
                     prop_assert_eq!(taken, self.model.take());
                     self.room()?;
                 }
@@ -322,7 +322,7 @@ impl Test {
         let entries: Vec<_> = self
             .ledger
             .entries()
-            .map(|e| (e.number, e.pdcp, e.size, fates(e.fate)))
+            .map(|e| (e.number, e.pdcp, e.size.into(), fates(e.fate)))
             .collect();
         let expected: Vec<_> = self
             .model

@@ -7,7 +7,7 @@ use x2u::frame::LONGEST;
 use x2u::ledger::{Entry, Fate, LARGEST_SIZE};
 use x2u::{Answer, Keeper, Ledger, Refusal};
 
-/// Sizes at their limits, and beyond.
+/// Sizes at their limits, and beyond; one that is allowed in its last 16 bits.
 pub const LIMITS: [u32; 8] = [
     0,
     1,
@@ -15,7 +15,7 @@ pub const LIMITS: [u32; 8] = [
     LARGEST_SIZE - 1,
     LARGEST_SIZE,
     LARGEST_SIZE + 1,
-    1 << 31,
+    65_537,
     u32::MAX,
 ];
 
@@ -129,7 +129,8 @@ pub fn left_by_status<'a>(
 /// The octets of the entries of a fate.
 fn held(ledger: &Ledger, fate: Fate) -> u32 {
     let of_fate = |entry: &&Entry| entry.fate == fate;
-    ledger.entries().filter(of_fate).map(|e| e.size).sum()
+    let sizes = ledger.entries().filter(of_fate).map(|e| u32::from(e.size));
+    sizes.sum()
 }
 
 /// A send, and what it would have come to with another size.

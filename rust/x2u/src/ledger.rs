@@ -28,8 +28,9 @@ pub struct Entry {
     pub number: u32,
     /// Its PDCP number.
     pub pdcp: u32,
-    /// Its size, in octets.
-    pub size: u32,
+    /// Its size in octets, in no more bits than it needs: an entry is as small
+    /// as it was without.
+    pub size: u16,
     /// What became of it.
     pub fate: Fate,
 }
@@ -90,10 +91,9 @@ impl Ledger {
     /// Sends the packet of that PDCP number, whose PDU has `size` octets, and
     /// answers its X2-U number.
     pub fn send(&mut self, pdcp: u32, size: u32) -> Answer<u32> {
-        let allowed = 1..=LARGEST_SIZE;
         refuse_if(self.closed, Refusal::Closed)?;
         refuse_if(!self.bearer.pdcp.holds(pdcp), Refusal::NumberTooLarge)?;
-        refuse_if(!allowed.contains(&size), Refusal::SizeOutside)?;
+        let size = judged_size(size)?;
         refuse_if(!self.is_in_order(pdcp), Refusal::PdcpOrder)?;
         refuse_if(self.entries.is_full(), Refusal::LedgerFull)?;
 
@@ -188,8 +188,8 @@ impl Ledger {
     #[must_use]
     pub fn room(&self) -> u32 {
         // 512 of the largest fit.
-        let waiting: u32 = self.waiting().map(|(_, entry)| entry.size).sum();
-        self.desired.saturating_sub(waiting)
+        let sizes = self.waiting().map(|(_, entry)| u32::from(entry.size));
+        self.desired.saturating_sub(sizes.sum())
     }
 
     /// The entries, in sending order.
@@ -297,6 +297,13 @@ impl Ledger {
         }
         lost
     }
+}
+
+/// A PDU's size, if it is one that a PDU may have.
+fn judged_size(octets: u32) -> Answer<u16> {
+    let allowed = (1..=LARGEST_SIZE).contains(&octets);
+    refuse_if(!allowed, Refusal::SizeOutside)?;
+    Ok(octets as u16)
 }
 
 /// A set of places in the ledger, so that a frame is judged whole before the

@@ -35,19 +35,19 @@ fn wants(ledger: &mut Ledger, desired: u32) {
     assert_eq!((settled.freed, settled.lost), (0, 0));
 }
 
-fn sizes(ledger: &Ledger) -> Vec<u32> {
+fn sizes(ledger: &Ledger) -> Vec<u16> {
     ledger.entries().map(|entry| entry.size).collect()
 }
 
 fn taken(ledger: &mut Ledger) -> Result<(u32, u32, u32), Refusal> {
     let taken = ledger.take()?;
-    Ok((taken.number, taken.pdcp, taken.size))
+    Ok((taken.number, taken.pdcp, taken.size.into()))
 }
 
 #[test]
 fn a_pdu_has_1_to_16384_octets() {
     let mut ledger = ledger_with(&[]);
-    for size in [0, 16_385, 65_536, 1 << 31, u32::MAX - 1, u32::MAX] {
+    for size in [0, 16_385, 65_536, 65_537, 1 << 31, (1 << 31) + 1, u32::MAX] {
         let before = format!("{ledger:?}");
         assert_eq!(ledger.send(0, size), Err(Refusal::SizeOutside), "{size}");
         assert_eq!(format!("{ledger:?}"), before, "{size} changed the ledger");

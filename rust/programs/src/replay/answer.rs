@@ -65,7 +65,7 @@ pub fn settled(answer: Answer<Settled>, out: &mut impl Write) -> io::Result<()> 
 pub fn taken(answer: Answer<Entry>, out: &mut impl Write) -> io::Result<()> {
     print(answer, out, |entry, out| {
         out.write_all(b"taken")?;
-        out.fields(&[entry.number, entry.pdcp, entry.size])
+        out.fields(&[entry.number, entry.pdcp, entry.size.into()])
     })
 }
 
@@ -110,7 +110,7 @@ pub fn ledger(ledger: &Ledger, out: &mut impl Write) -> io::Result<()> {
             Fate::Lost => b":l:",
         };
         pair(out, entry.number, entry.pdcp, mark)?;
-        out.decimal(entry.size)
+        out.decimal(entry.size.into())
     })
 }
 
