@@ -174,6 +174,17 @@ fn what_is_lost_or_freed_takes_no_room() {
     assert_eq!(taken(&mut ledger), Ok((4, 4, 10_000)));
 }
 
+/// Entries that wait stand in front of what is taken, and behind it.
+#[test]
+fn a_take_answers_its_own_size() {
+    let mut ledger = ledger_with(&[5, 7, 9, 11]);
+    let lost = status(4_095, 100, &[run(1, 1)], false);
+    ledger.accept(&lost).unwrap();
+    assert_eq!(taken(&mut ledger), Ok((1, 1, 7)));
+    assert_eq!(sizes(&ledger), [5, 9, 11]);
+    assert_eq!(ledger.room(), 75);
+}
+
 #[test]
 fn a_refused_status_changes_no_room() {
     let mut ledger = ledger_with(&[40, 50, 60]);
