@@ -1,6 +1,7 @@
 -- What the master's machine means: every ledger that calls reach from open is as document 01 says, with 35 as request Three of document 02
 -- mends it and sizes and room as request Four adds them, on packet indexes that never roll over, whatever frames were accepted on the way. Packet
--- i is the i-th accepted send. The statements are `LedgersMean`, `SendsMean`, `TakesMean` and `StatusesMean`, at the end; they are proved in proofs/Master/LedgerMeans.antt.
+-- i is the i-th accepted send. The statements are `LedgersMean`, `SendsMean`, `TakesMean` and `StatusesMean`, at the end; they are proved in
+-- proofs/Master/LedgerMeans.antt.
 -- Assumes nothing.
 use mathlib.Core.Path.{_≡_}
 use mathlib.Core.Bool.{true, false, not, Bool}
