@@ -1,7 +1,7 @@
 #!/usr/bin/env bash
-# Document 01's bench sheet as requests One and Three left it, played call by call on the proved engines by replay: the cases of
-# tests/calls/, a bearer that rested and what docs/LIMITS.md says among them, 163 listed runs, half a circle of packets, a full ledger, and a
-# hundred rests.
+# Document 01's bench sheet as requests One, Three and Four left it, played call by call on the proved engines by replay: the cases of
+# tests/calls/, a bearer that rested, sizes and room, and what docs/LIMITS.md says among them, 163 listed runs, half a circle of packets, a full
+# ledger, also of the largest PDUs, and a hundred rests.
 set -u
 cd "$(dirname "$0")/.."
 passed=0
@@ -40,7 +40,7 @@ done < <(for file in tests/calls/*.txt; do cat "$file" && echo; done)
 # back before the run that it leaves out; with Final it is refused; the master frees what it may; the next status has the rest
 {
   echo "open 15 0 0 = ok"
-  for p in $(seq 0 326); do echo "send $p = sent $p"; done
+  for p in $(seq 0 326); do echo "send $p $((p + 1)) = sent $p"; done
   for p in $(seq 0 2 326); do echo "arrive $p $p = lost $((p > 256))"; done
   echo "expire = lost 128"
   for p in $(seq 0 2 326); do echo "confirm $p = ok"; done
@@ -50,10 +50,12 @@ done < <(for file in tests/calls/*.txt; do cat "$file" && echo; done)
   echo "status 7 6 0 662 = frame 1101440000000700000006a2${ranges}0000"
   echo "keeper = keeper 327 324 0 325-325 326:326:1"
   echo "accept 1101440000000700000006a2${ranges}0000 = freed 163 lost 162 final 0"
+  echo "room = room 0"
   echo "status 7 6 1 18 = frame 130146000000070000000601014501450000"
   echo "keeper = keeper 327 326 1 none none"
   echo "accept 130146000000070000000601014501450000 = freed 1 lost 1 final 1"
-  for p in $(seq 1 2 325); do echo "take = taken $p $p"; done
+  echo "room = room 7"
+  for p in $(seq 1 2 325); do echo "take = taken $p $p $((p + 1))"; done
   echo "take = refused 38"
 } >"$work/calls"
 play "163 listed runs"
@@ -65,15 +67,15 @@ play "163 listed runs"
 awk 'BEGIN {
   print "open 15 0 0 = ok"
   for (p = 0; p < 32768; p += 256) {
-    for (i = p; i < p + 256; i++) printf "send %d = sent %d\narrive %d %d = lost 0\nconfirm %d = ok\n", i, i, i, i, i
+    for (i = p; i < p + 256; i++) printf "send %d %d = sent %d\narrive %d %d = lost 0\nconfirm %d = ok\n", i, 1 + i % 16384, i, i, i, i
     frame = sprintf("10%04x0000000700000006000000", i - 1)
-    printf "status 7 6 0 14 = frame %s\naccept %s = freed 256 lost 0 final 0\n", frame, frame
+    printf "room = room 0\nstatus 7 6 0 14 = frame %s\naccept %s = freed 256 lost 0 final 0\nroom = room 7\n", frame, frame
   }
   print "keeper = keeper 32768 32767 0 none none"
   print "ledger = ledger 32768 32767 32767 0 7 6 none"
   print "arrive 0 0 = refused 18"
   print "arrive 1 1 = refused 11"
-  print "send 0 = sent 32768\narrive 32768 0 = lost 0\nconfirm 32768 = ok"
+  print "send 0 6 = sent 32768\nroom = room 1\narrive 32768 0 = lost 0\nconfirm 32768 = ok"
   print "status 7 6 0 14 = frame 1000000000000700000006000000\naccept 1000000000000700000006000000 = freed 1 lost 0 final 0"
   print "arrive 0 0 = lost 32512"
   print "status 7 6 0 18 = frame 1100000000000700000006018001ff000000\naccept 1100000000000700000006018001ff000000 = refused 33"
@@ -84,16 +86,38 @@ play "half a circle of packets"
 # given up, and no status frees anything (docs/LIMITS.md). With all of it lost and nothing waiting the order is the same
 {
   echo "open 15 0 0 = ok"
-  for p in $(seq 0 511); do echo "send $p = sent $p"; done
-  printf '%s\n' "send 32768 = refused 10" "send 511 = refused 35" "send 16384 = refused 35" "send 32767 = refused 35" "send 16383 = refused 36"
+  for p in $(seq 0 511); do echo "send $p 1 = sent $p"; done
+  printf '%s\n' "send 32768 0 = refused 10" "send 511 1 = refused 35" "send 16384 1 = refused 35" "send 32767 1 = refused 35" "send 16383 1 = refused 36"
+  printf '%s\n' "send 511 0 = refused 39" "send 16383 0 = refused 39" "send 16383 16385 = refused 39" "send 16383 16384 = refused 36"
   echo "expire = refused 17"
   echo "status 7 6 0 14 = frame 107fff0000000700000006000000"
   echo "accept 107fff0000000700000006000000 = freed 0 lost 0 final 0"
-  echo "send 16383 = refused 36"
+  echo "send 16383 1 = refused 36"
   echo "accept 117fff000000070000000601000001ff0000 = freed 0 lost 512 final 0"
-  printf '%s\n' "send 32768 = refused 10" "send 32767 = refused 35" "send 16384 = refused 36" "take = taken 0 0" "send 16384 = sent 512"
+  printf '%s\n' "send 32768 1 = refused 10" "send 32767 1 = refused 35" "send 16384 1 = refused 36" "send 16384 0 = refused 39"
+  printf '%s\n' "room = room 7" "take = taken 0 0 1" "room = room 7" "send 16384 6 = sent 512" "room = room 1"
 } >"$work/calls"
 play "a full ledger"
+
+# A full ledger of the largest PDUs, 8,388,608 octets: one less desired than waits, as much, one more, and the most; with every second one lost;
+# with all but the last freed; and once a Final has closed it, what it gives out
+{
+  echo "open 15 0 0 = ok"
+  for p in $(seq 0 511); do echo "send $p 16384 = sent $p"; done
+  for case in 7fffff=0 800000=0 800001=1; do echo "accept 107fff00${case%=*}00000006000000 = freed 0 lost 0 final 0"; echo "room = room ${case#*=}"; done
+  echo "accept 107fffffffffff00000006000000 = freed 0 lost 0 final 0"
+  echo "room = room 4286578687"
+  ranges=$(for p in $(seq 0 2 322); do printf '%04x%04x' "$p" "$p"; done)
+  echo "accept 117fffffffffff00000006a2${ranges}0000 = freed 0 lost 162 final 0"
+  echo "room = room $((4286578687 + 162 * 16384))"
+  echo "accept 1001fe0000400100000006000000 = freed 349 lost 0 final 0"
+  echo "room = room 1"
+  echo "accept 1201fe0000400000000006000000 = freed 0 lost 0 final 1"
+  echo "room = room 0"
+  for p in $(seq 0 2 322); do printf '%s\n' "take = taken $p $p 16384" "room = room 0"; done
+  printf '%s\n' "take = taken 511 511 16384" "room = room 16384" "take = refused 38" "room = room 16384"
+} >"$work/calls"
+play "a full ledger of the largest PDUs"
 
 # A bearer that rests a hundred times: before each pair of packets over X2 a part of the PDCP circle goes over the master alone, from none of
 # it to nearly twice around. The first of the pair is lost, reported, and left with the master. What bears H is refused, and goes there too
@@ -104,12 +128,13 @@ for bits in 12 15 18; do
     n = m - 41; highest = size - 1; p = 0; lost = ""
     printf "open %d %d 0 = ok\n", bits, n
     for (i = 0; i < 100; i++) {
-      if (p == highest) { printf "send %d = refused 35\n", p; p = (p + 1) % size }
-      printf "send %d = sent %d\nsend %d = refused 35\nsend %d = refused 35\n", p, n, p, (p + size / 2) % size
-      lost = lost n ":" p ":l"; first = n; n = (n + 1) % m; p = (p + 1) % size
-      if (p == highest) { printf "send %d = refused 35\n", p; p = (p + 1) % size }
-      printf "send %d = sent %d\narrive %d %d = lost 0\nexpire = lost 1\nconfirm %d = ok\n", p, n, n, p, n
-      printf "status 7 6 0 1018 = frame " frame "\naccept " frame " = freed 1 lost 1 final 0\n", p, first, first, p, first, first
+      z = 1 + n % 16384
+      if (p == highest) { printf "send %d %d = refused 35\n", p, z; p = (p + 1) % size }
+      printf "send %d %d = sent %d\nsend %d %d = refused 35\nsend %d %d = refused 35\n", p, z, n, p, z, (p + size / 2) % size, z
+      lost = lost n ":" p ":l:" z; first = n; n = (n + 1) % m; p = (p + 1) % size
+      if (p == highest) { printf "send %d 1 = refused 35\n", p; p = (p + 1) % size }
+      printf "send %d 1 = sent %d\narrive %d %d = lost 0\nexpire = lost 1\nconfirm %d = ok\n", p, n, n, p, n
+      printf "status 7 6 0 1018 = frame " frame "\naccept " frame " = freed 1 lost 1 final 0\nroom = room 7\n", p, first, first, p, first, first
       highest = p; n = (n + 1) % m
       printf "ledger = ledger %d %d %d 0 7 6 %s\n", n, highest, highest, lost
       lost = lost ","

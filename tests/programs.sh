@@ -151,7 +151,7 @@ child() { tr ' ' '\n' <"/proc/$1/task/$1/children" | tail -n 1; }
 lister=$root/scripts/lister
 replay=$root/scripts/replay
 printf '001234000000\n400000000000' >frames
-printf 'open\t12\t0\t0\nsend\t0' >calls
+printf 'open\t12\t0\t0\nsend\t0\t40' >calls
 { head -n 1 frames && yes "$(head -n 1 frames)" | head -n 29999; } >frames.many
 { head -n 1 calls && yes take | head -n 29999; } >calls.many
 . "$root/scripts/kit.sh"
@@ -252,12 +252,12 @@ what="replay, live"
 begin "$replay"
 {
   tell 'open\t12\t0\t0\n'; hear
-  tell 'send\t0\narrive\t0\t0\n'; hear; hear
+  tell 'send\t0\t40\narrive\t0\t0\n'; hear; hear
   tell 'exp'; hear 0.3
-  tell 'ire\nconfirm\t0\n'; hear; hear
+  tell 'ire\nconfirm\t0\nroom\n'; hear; hear; hear
   tell 'take'; ended; hear
 } >out
-wrote 'ok\nsent\t0\nlost\t0\n\nrefused\t17\nok\nstatus 0\nrefused\t38\n'
+wrote 'ok\nsent\t0\nlost\t0\n\nrefused\t17\nok\nroom\t0\nstatus 0\nrefused\t38\n'
 said ''
 exec {from}<&-
 

@@ -1,6 +1,7 @@
 #!/usr/bin/env bash
-# Twenty seconds of the ramp for each L, over both rollovers and some rests, and what its report says; a lie in the middle of one, and
-# programs that hang, end early or can't be started, which must fail it; files that are kept; and what is refused before anything is built.
+# Twenty seconds of the ramp for each L, over both rollovers and some rests, with PDUs of all sizes, and what its report says; a lie in the
+# middle of one, and programs that hang, end early or can't be started, which must fail it; files that are kept; and what is refused before
+# anything is built.
 set -u
 cd "$(dirname "$0")/.."
 passed=0
@@ -41,6 +42,10 @@ for bits in 12 15 18; do
     holds "L $bits, a rest of more than $rest" grep -qE "^  of more than $rest +[1-9]" "$out/$bits.txt"
   done
   holds "L $bits, sends that waited for the PDCP order" grep -qE '^  master, send +35 .* [0-9,]+$' "$out/$bits.txt"
+  holds "L $bits, sends of a wrong size" grep -qE '^  master, send +39 .* [0-9,]+$' "$out/$bits.txt"
+  for room in '  times it was 0' 'least above 0'; do
+    holds "L $bits, room: $room" grep -qE "^  $room +[1-9][0-9,]*$" "$out/$bits.txt"
+  done
   # of the long form no half circle is sent in this time
   [ $bits = 18 ] || holds "L $bits, a copy opposite base" grep -qE '^  secondary, arrive +18 .* [0-9,]+$' "$out/$bits.txt"
 done
@@ -59,12 +64,13 @@ ln -s "$PWD" "$out/link"
 rm "$out/link"
 holds "the shipped build is known through a link" grep -q '^  build  *the shipped one' "$out/link.txt"
 holds "the commit is known through a link" grep -q "^Commit  *$commit" "$out/link.txt"
-for sum in offered 'that had to wait' 'declared lost' dropped rests 'PDCP numbers used'; do
+for sum in offered 'that had to wait' 'declared lost' dropped 'octets sent' rests 'PDCP numbers used'; do
   holds "the parts of what was $sum add up" [ "$(grep -c "^  together, all $sum " "$out/12.txt")" -eq 1 ]
 done
 declared() { sed -n "s/^  $1  *\([0-9,]*\)$/\1/p" "$out/12.txt" | head -n 1; }
 holds "the causes add up to those declared lost" [ "$(declared 'declared lost')" = "$(declared 'together, all declared lost')" ]
 holds "the chart has a panel for records" grep -q '>512: records full</text>' "$out/12.svg"
+holds "the chart has a panel for the room" grep -qE '>0 in [1-9][0-9]? of 100</text>' "$out/12.svg"
 
 # A rate that isn't reached is said, and is no plain pass
 plays fast 3 target/native/replay --rate 100000 --minutes 0.05

@@ -75,6 +75,10 @@ says-as s f g = record { there = λ e. f (s .there e); back = λ h. s .back (g h
 pub says-past : (a b : ℕ) → Says (not (ltb a b)) (b ≤ a)
 says-past a b = says-as (says-not (says-below a b)) (λ none. ⊎-elim (λ h. absurd (none h)) (λ h. h) (order a b)) (λ h k. omega arith)
 
+-- a number isn't at most another
+pub says-more : (a b : ℕ) → Says (not (leb a b)) (b < a)
+says-more a b = says-as (says-not (says-at-most a b)) (λ none. ⊎-elim (λ h. h) (λ h. absurd (none h)) (order b a)) (λ h k. omega arith)
+
 -- a test of a sentence that doesn't hold fails
 pub says-fails : {S : Type 0} {t : Bool} → Says t S → (S → ⊥) → t ≡ false
 says-fails {t = t} s none = refuted t (λ e. none (s .there e))

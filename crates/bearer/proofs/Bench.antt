@@ -5,7 +5,7 @@
 use mathlib.Core.Path.{_≡_, refl}
 use mathlib.Core.Bool.{Bool, true, false}
 use mathlib.Core.List.{List, [], _∷_, _++_, map}
-use Prim.Native.Nat.{ℕ, _*_}
+use Prim.Native.Nat.{ℕ, _*_, _/_, _%_}
 use lib.ListN.{length, take, drop, replicate}
 use Rattle.basics.specs.Basics.{Outcome, done, refused}
 use Rattle.frame_layout.specs.Frames.{Range, Status, Reading, data-of, status-of, refuse, Written, unwritten, readFrame, writeData, writeStatus}
@@ -27,11 +27,13 @@ pub data Call : Type 0 where
 
 -- a call on a master, and what it answers
 pub data Turn : Type 0 where
-  -- a PDCP number is sent
-  sends : ℕ → Outcome ℕ → Turn
+  -- a PDU is sent: its PDCP number and its size
+  puts : ℕ → ℕ → Outcome ℕ → Turn
   -- octets are accepted
   accepts : List ℕ → Outcome G.Accepted → Turn
   takes : Outcome G.Taken → Turn
+  -- room is asked for
+  has-room : ℕ → Turn
 
 -- a case
 pub data Case : Type 0 where
@@ -43,7 +45,7 @@ pub data Case : Type 0 where
   octets-read : List ℕ → Reading → Case
   -- calls on a secondary, one after another: their answers, and base afterwards
   secondary : Outcome K.Keeper → List Call → ℕ → Case
-  -- a PDCP number is sent by a master: the answer
+  -- a PDU of one octet is sent by a master: the answer
   master : Outcome (G.Ledger Unit) → ℕ → Outcome ℕ → Case
   -- calls on a master, one after another: their answers
   turns : Outcome (G.Ledger Unit) → List Turn → Case
@@ -54,7 +56,7 @@ pub data Case : Type 0 where
   -- nothing is taken from a master: the refusal
   not-taken : Outcome (G.Ledger Unit) → ℕ → Case
   -- octets are accepted by a master: the desired and the minimum size that it holds afterwards
-  sizes : Outcome (G.Ledger Unit) → List ℕ → ℕ → ℕ → Case
+  status-sizes : Outcome (G.Ledger Unit) → List ℕ → ℕ → ℕ → Case
 
 -- ---- what the cases say
 
@@ -87,9 +89,10 @@ CallsAnswered k (reports d m final r ∷ cs) base = (readReport (K.status k d m 
 -- calls on a master are answered so
 abbrev pub TurnsAnswered : G.Ledger Unit → List Turn → Type 0
 TurnsAnswered l [] = Unit
-TurnsAnswered l (sends p a ∷ ts) = (G.send l p tt .answer ≡ a) × TurnsAnswered (G.send l p tt .state) ts
+TurnsAnswered l (puts p z a ∷ ts) = (G.send l p z tt .answer ≡ a) × TurnsAnswered (G.send l p z tt .state) ts
 TurnsAnswered l (accepts o a ∷ ts) = (G.accept l o .answer ≡ a) × TurnsAnswered (G.accept l o .state) ts
 TurnsAnswered l (takes a ∷ ts) = (G.takeOldest l .answer ≡ a) × TurnsAnswered (G.takeOldest l .state) ts
+TurnsAnswered l (has-room n ∷ ts) = (G.room l ≡ n) × TurnsAnswered l ts
 
 -- what is said of an end, which was opened
 abbrev pub Of : {A : Type 0} → Outcome A → (A → Type 0) → Type 0
@@ -102,12 +105,12 @@ Holds (data-frame long n frame) = writeData long n bench ≡ leaves frame
 Holds (status-frame s frame) = writeStatus s bench ≡ leaves frame
 Holds (octets-read s r) = readFrame s ≡ r
 Holds (secondary k cs base) = Of k (λ o. CallsAnswered o cs base)
-Holds (master l p a) = Of l (λ o. G.send o p tt .answer ≡ a)
+Holds (master l p a) = Of l (λ o. G.send o p 1 tt .answer ≡ a)
 Holds (turns l ts) = Of l (λ o. TurnsAnswered o ts)
 Holds (not-opened L first f n) = (K.openKeeper L first f ≡ refused n) × (G.openLedger {A = Unit} L first f ≡ refused n)
 Holds (not-accepted l s n) = Of l (λ o. G.accept o s .answer ≡ refused n)
 Holds (not-taken l n) = Of l (λ o. G.takeOldest o .answer ≡ refused n)
-Holds (sizes l s desired minimum) = Of l (λ o. (G.accept o s .state .desired ≡ desired) × (G.accept o s .state .minimum ≡ minimum))
+Holds (status-sizes l s desired minimum) = Of l (λ o. (G.accept o s .state .desired ≡ desired) × (G.accept o s .state .minimum ≡ minimum))
 
 -- every case of a table holds
 abbrev pub AllHold : List Case → Type 0
@@ -158,9 +161,13 @@ records n = map (λ (i : ℕ). K.newRecord i i) (below n)
 abbrev pub recording : ℕ → K.Keeper
 recording n = K.freshKeeper 12 1000 1 with-records records n
 
--- a master that holds so many entries
+-- a PDU of one octet is sent
+abbrev pub sends : ℕ → Outcome ℕ → Turn
+sends p a = puts p 1 a
+
+-- a master that holds so many entries of 16,384 octets each
 abbrev pub filled : ℕ → G.Ledger Unit
-filled n = G.freshLedger {A = Unit} 12 1000 1 with-sent 999 with-entries map (λ (i : ℕ). G.newEntry i i tt) (below n)
+filled n = G.freshLedger {A = Unit} 12 1000 1 with-sent 999 with-entries map (λ (i : ℕ). G.newEntry i i 16384 tt) (below n)
 
 -- two ranges of the short form, and a frame that bears them
 abbrev pub two-short : List Range
@@ -198,12 +205,32 @@ highest-only h = 0x10 ∷ 0x00 ∷ h ∷ replicate 11 0
 abbrev pub lost-only : ℕ → List ℕ
 lost-only n = 0x11 ∷ 0x0F ∷ 0xFF ∷ one-range n
 
--- a status by which so many were freed and so many became lost, and what was taken
+-- a desired size and the minimum size 7 in a frame
+abbrev pub desiring : ℕ → List ℕ
+desiring d = d / 16777216 ∷ d / 65536 % 256 ∷ d / 256 % 256 ∷ d % 256 ∷ 0 ∷ 0 ∷ 0 ∷ 7 ∷ []
+
+-- a frame of the short form with a highest and a desired size; one with Final, and one that names a number, both with the highest 4095
+abbrev pub wants : ℕ → ℕ → List ℕ
+wants h d = 0x10 ∷ h / 256 ∷ h % 256 ∷ desiring d ++ replicate 3 0
+
+abbrev pub ends : ℕ → List ℕ
+ends d = 0x12 ∷ 0x0F ∷ 0xFF ∷ desiring d ++ replicate 3 0
+
+abbrev pub loses : ℕ → ℕ → List ℕ
+loses n d = 0x11 ∷ 0x0F ∷ 0xFF ∷ desiring d ++ (0x01 ∷ 0x00 ∷ n ∷ 0x00 ∷ n ∷ 0x00 ∷ 0x00 ∷ [])
+
+-- a status by which so many were freed and so many became lost, one with Final that did neither, and what was taken, of one octet and of others
 abbrev pub counts : ℕ → ℕ → Outcome G.Accepted
 counts freed lost = done (record { freed = freed; lost = lost; final = false })
 
+abbrev pub ended : Outcome G.Accepted
+ended = done (record { freed = 0; lost = 0; final = true })
+
+abbrev pub taken-of : ℕ → ℕ → ℕ → Outcome G.Taken
+taken-of n p z = done (record { number = n; pdcp = p; size = z })
+
 abbrev pub taken : ℕ → ℕ → Outcome G.Taken
-taken n p = done (record { number = n; pdcp = p })
+taken n p = taken-of n p 1
 
 -- ---- the table
 
@@ -304,10 +331,33 @@ rested =
     ∷ turns (G.openLedger 12 0 0) (sends 0 (done 0) ∷ sends 3 (done 1) ∷ accepts (lost-only 1) (counts 0 1) ∷ sends 3 (refused 35) ∷ takes (taken 1 3) ∷ sends 3 (refused 35) ∷ sends 4 (done 2) ∷ [])
     ∷ []
 
+-- sizes and room (request Four)
+abbrev pub bytes : List Case
+bytes =
+    -- sizes of 1 to 16,384 octets; no room before any status, nothing sent or something; a PDU beyond the room is sent
+    turns (G.openLedger 12 0 0) (has-room 0 ∷ puts 0 0 (refused 39) ∷ puts 0 16385 (refused 39) ∷ puts 0 65537 (refused 39) ∷ puts 0 1 (done 0) ∷ puts 1 16384 (done 1) ∷ has-room 0 ∷ accepts (wants 4095 16386) (counts 0 0) ∷ has-room 1 ∷ puts 2 16384 (done 2) ∷ has-room 0 ∷ [])
+    -- the desired size, and not the minimum, less what waits; 0 where both are the same or less is desired; the last status counts
+    ∷ turns (G.openLedger 12 0 0) (puts 0 100 (done 0) ∷ accepts (wants 4095 151) (counts 0 0) ∷ puts 1 50 (done 1) ∷ has-room 1 ∷ accepts (wants 4095 150) (counts 0 0) ∷ has-room 0 ∷ accepts (wants 4095 149) (counts 0 0) ∷ has-room 0 ∷ accepts (wants 4095 200) (counts 0 0) ∷ has-room 50 ∷ [])
+    -- a refused status changes no room, nor does a refused send; less is desired than the minimum, and nothing
+    ∷ turns (G.openLedger 12 0 0) (accepts (wants 4095 200) (counts 0 0) ∷ accepts (wants 5 900) (refused 34) ∷ accepts (loses 9 900) (refused 33) ∷ has-room 200 ∷ puts 0 16385 (refused 39) ∷ puts 4095 8 (refused 35) ∷ has-room 200 ∷ accepts (wants 4095 5) (counts 0 0) ∷ has-room 5 ∷ accepts (wants 4095 0) (counts 0 0) ∷ has-room 0 ∷ [])
+    -- lost ones don't count, taken or not, nor do freed ones; a take answers the size of what it takes
+    ∷ turns (G.openLedger 12 0 0) (puts 0 100 (done 0) ∷ puts 1 50 (done 1) ∷ puts 2 7 (done 2) ∷ accepts (loses 1 1000) (counts 0 1) ∷ has-room 893 ∷ takes (taken-of 1 1 50) ∷ has-room 893 ∷ accepts (wants 0 1000) (counts 1 0) ∷ has-room 993 ∷ [])
+    -- a closed end has room, and what is taken of it as waiting counts no more
+    ∷ turns (G.openLedger 12 0 0) (puts 0 100 (done 0) ∷ puts 1 50 (done 1) ∷ accepts (ends 1000) ended ∷ has-room 850 ∷ takes (taken-of 0 0 100) ∷ has-room 950 ∷ takes (taken-of 1 1 50) ∷ takes (refused 38) ∷ has-room 1000 ∷ [])
+    -- lost ones don't count there either; a status that is refused with 9 changes nothing
+    ∷ turns (G.openLedger 12 0 0) (puts 0 100 (done 0) ∷ puts 1 50 (done 1) ∷ puts 2 7 (done 2) ∷ accepts (loses 1 900) (counts 0 1) ∷ accepts (ends 1000) ended ∷ has-room 893 ∷ takes (taken-of 0 0 100) ∷ takes (taken-of 1 1 50) ∷ accepts (wants 4095 5) (refused 9) ∷ has-room 993 ∷ takes (taken-of 2 2 7) ∷ has-room 1000 ∷ [])
+    -- a PDU that is sent again has its own size each time
+    ∷ turns (G.openLedger 12 0 0) (puts 5 10 (done 0) ∷ accepts (loses 0 100) (counts 0 1) ∷ puts 5 20 (done 1) ∷ has-room 80 ∷ takes (taken-of 0 5 10) ∷ has-room 80 ∷ [])
+    -- the long form, over the rollover of the X2-U numbers
+    ∷ turns (G.openLedger 18 16777215 0) (puts 0 16385 (refused 39) ∷ puts 0 100 (done 16777215) ∷ puts 1 50 (done 0) ∷ accepts (0x20 ∷ 0x03 ∷ 0xFF ∷ 0xFF ∷ desiring 151 ++ replicate 2 0) (counts 0 0) ∷ has-room 1 ∷ [])
+    -- the most that waits, and the most that is desired
+    ∷ turns (done (filled 512)) (has-room 0 ∷ accepts (wants 0 4294967295) (counts 0 0) ∷ has-room 4286578687 ∷ accepts (wants 0 8388608) (counts 0 0) ∷ has-room 0 ∷ [])
+    ∷ []
+
 -- a master holds the two sizes in their order; the stores of runs, of records and of entries; Final where 162 runs are listed, and 163
 abbrev pub stores : List Case
 stores =
-    sizes (G.openLedger 12 0 121) (0x10 ∷ 0x00 ∷ 0x78 ∷ size-octets ++ replicate 3 0) 65536 4096
+    status-sizes (G.openLedger 12 0 121) (0x10 ∷ 0x00 ∷ 0x78 ∷ size-octets ++ replicate 3 0) 65536 4096
     ∷ secondary (done (listing 255)) (arrives 1256 0 (done 1) ∷ []) 1001
     ∷ secondary (done (listing 256)) (arrives 1256 0 (refused 14) ∷ []) 1000
     ∷ secondary (done (recording 511)) (arrives 1000 0 (done 0) ∷ []) 1001
@@ -359,9 +409,10 @@ secondary-orders =
 -- those of the master
 abbrev pub master-orders : List Case
 master-orders =
-    -- send: 9 before 10, 10 before 35, 35 before 36
-    master (done closed) 4096 (refused 9)
-    ∷ master (G.openLedger 12 0 0) 8191 (refused 10)
+    -- send: 9 before 10 and 39, 10 before 39 and (with an entry waiting) 35, 39 before 35 and 36, 35 before 36
+    turns (done closed) (puts 4096 1 (refused 9) ∷ puts 1 0 (refused 9) ∷ [])
+    ∷ turns (G.openLedger 12 0 0) (puts 8191 0 (refused 10) ∷ puts 4095 0 (refused 39) ∷ puts 4095 16385 (refused 39) ∷ puts 5 1 (done 0) ∷ puts 4101 1 (refused 10) ∷ [])
+    ∷ turns (done (filled 512)) (puts 1000 0 (refused 39) ∷ [])
     ∷ master (done (filled 512)) 999 (refused 35)
     -- accept: 9 before 1, 6 before 31, 31 before 32, 32 before 33, 33 before 34, 34
     ∷ not-accepted (done closed) [] 9
@@ -376,7 +427,7 @@ master-orders =
 
 -- all of them, part by part
 abbrev pub cases : List (List Case)
-cases = sheet ∷ written ∷ laid ∷ are-read ∷ circles ∷ rested ∷ stores ∷ frame-orders ∷ secondary-orders ∷ master-orders ∷ []
+cases = sheet ∷ written ∷ laid ∷ are-read ∷ circles ∷ rested ∷ bytes ∷ stores ∷ frame-orders ∷ secondary-orders ∷ master-orders ∷ []
 
 -- ---- each case holds
 
@@ -398,6 +449,9 @@ circles-hold = ((refl, refl), ((refl, (refl, (refl, refl))), ((refl, refl), ((re
 rested-hold : AllHold rested
 rested-hold = ((refl, (refl, (refl, (refl, (refl, (refl, tt)))))), ((refl, (refl, (refl, (refl, (refl, tt))))), ((refl, (refl, (refl, (refl, tt)))), ((refl, (refl, (refl, (refl, (refl, (refl, tt)))))), ((refl, (refl, (refl, (refl, (refl, (refl, tt)))))), ((refl, (refl, (refl, (refl, tt)))), ((refl, (refl, (refl, (refl, (refl, (refl, (refl, tt))))))), ((refl, (refl, (refl, (refl, (refl, (refl, (refl, tt))))))), ((refl, (refl, (refl, (refl, (refl, tt))))), ((refl, (refl, (refl, (refl, (refl, (refl, (refl, tt))))))), ((refl, (refl, (refl, (refl, (refl, (refl, (refl, tt))))))), tt)))))))))))
 
+bytes-hold : AllHold bytes
+bytes-hold = ((refl, (refl, (refl, (refl, (refl, (refl, (refl, (refl, (refl, (refl, (refl, tt))))))))))), ((refl, (refl, (refl, (refl, (refl, (refl, (refl, (refl, (refl, (refl, tt)))))))))), ((refl, (refl, (refl, (refl, (refl, (refl, (refl, (refl, (refl, (refl, (refl, tt))))))))))), ((refl, (refl, (refl, (refl, (refl, (refl, (refl, (refl, (refl, tt))))))))), ((refl, (refl, (refl, (refl, (refl, (refl, (refl, (refl, (refl, tt))))))))), ((refl, (refl, (refl, (refl, (refl, (refl, (refl, (refl, (refl, (refl, (refl, (refl, tt)))))))))))), ((refl, (refl, (refl, (refl, (refl, (refl, tt)))))), ((refl, (refl, (refl, (refl, (refl, tt))))), ((refl, (refl, (refl, (refl, (refl, tt))))), tt)))))))))
+
 stores-hold : AllHold stores
 stores-hold = ((refl, refl), ((refl, refl), ((refl, refl), ((refl, refl), ((refl, refl), (refl, (refl, ((refl, refl), ((refl, refl), tt)))))))))
 
@@ -408,8 +462,8 @@ secondary-orders-hold : AllHold secondary-orders
 secondary-orders-hold = ((refl, refl), ((refl, refl), ((refl, (refl, (refl, refl))), ((refl, (refl, (refl, (refl, refl)))), ((refl, refl), ((refl, (refl, refl)), ((refl, refl), ((refl, refl), ((refl, refl), ((refl, refl), ((refl, (refl, refl)), ((refl, refl), ((refl, (refl, refl)), tt)))))))))))))
 
 master-orders-hold : AllHold master-orders
-master-orders-hold = (refl, (refl, (refl, (refl, (refl, (refl, (refl, (refl, (refl, (refl, tt))))))))))
+master-orders-hold = ((refl, (refl, tt)), ((refl, (refl, (refl, (refl, (refl, tt))))), ((refl, tt), (refl, (refl, (refl, (refl, (refl, (refl, (refl, (refl, tt)))))))))))
 
 -- every case holds
 pub all-hold : PartsHold cases
-all-hold = (sheet-hold, (written-hold, (laid-hold, (are-read-hold, (circles-hold, (rested-hold, (stores-hold, (frame-orders-hold, (secondary-orders-hold, (master-orders-hold, tt))))))))))
+all-hold = (sheet-hold, (written-hold, (laid-hold, (are-read-hold, (circles-hold, (rested-hold, (bytes-hold, (stores-hold, (frame-orders-hold, (secondary-orders-hold, (master-orders-hold, tt)))))))))))

@@ -1,11 +1,11 @@
--- What both ends of a bearer share: document 01's limits, and what a call leaves.
+-- What both ends of a bearer share: the limits of documents 01 and 02, and what a call leaves.
 -- Assumes nothing.
 use mathlib.Core.Path.{_≡_}
 use mathlib.Core.Bool.{false}
 use Prim.Native.Nat.{ℕ}
 use Rattle.basics.specs.Basics.{Outcome, done, refused, isDone}
 
--- ---- document 01's limits
+-- ---- the limits
 
 -- an open number this far below an arrival is declared lost
 abbrev pub window : ℕ
@@ -22,6 +22,10 @@ mostRecords = 512
 -- the most entries that the master holds
 abbrev pub mostEntries : ℕ
 mostEntries = 512
+
+-- the most octets that a PDU has (document 02, Four)
+abbrev pub mostSize : ℕ
+mostSize = 16384
 
 -- ---- what a call leaves
 

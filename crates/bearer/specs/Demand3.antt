@@ -37,10 +37,10 @@ pub record OpenedAlike (L first f : ℕ) (w : World) : Type 0 where
 -- "Let packets be dropped, repeated or overtaken but not altered, and no copy arrive after half the number space has been sent behind
 -- it": a copy is of a packet that was sent, and fewer than M/2 were sent after it. Numbers that are no packet's reach the
 -- secondary only where it refuses them. "let status frames arrive unchanged, once, in the order built": that is
--- what deliver does; other octets are such as the master refuses. An end is opened again only where that is refused. Sizes are numbers of 32
--- bits. Everything else may happen at any time.
+-- what deliver does; other octets are such as the master refuses. An end is opened again only where that is refused. Both sizes of a
+-- status are numbers of 32 bits, a PDU's size is any number. Everything else may happen at any time.
 abbrev pub Allowed : ℕ → World → Event → Type 0
-Allowed L w (send p) = Unit
+Allowed L w (send p z) = Unit
 Allowed L w (copy i) = (i < length (w .sent)) × (length (w .sent) ≤ i + half L)
 Allowed L w (stray n p) = isDone (K.arrive (w .keeper) n p .answer) ≡ false
 Allowed L w expire = Unit

@@ -1,6 +1,7 @@
 -- The master's machine: what each call answers and leaves, in every state (document 01, "The master's rule" and "Refusal
--- numbers", with rule 35 as request Three of document 02 mends it). Every definition is total. An entry bears a label of any type, which no
--- definition looks at: the engine's entries bear none (Unit), and demand 3 writes the packet's own name on it.
+-- numbers", with rule 35 as request Three of document 02 mends it, and sizes and room as request Four adds them). Every definition is total. An
+-- entry bears a label of any type, which no definition looks at: the engine's entries bear none (Unit), and demand 3 writes the packet's own
+-- name on it.
 -- Assumes nothing.
 use mathlib.Core.Bool.{Bool, true, false, not}
 use mathlib.Core.List.{List, [], _∷_, _++_}
@@ -12,17 +13,18 @@ use Rattle.basics.specs.Basics.{if_then_else_, _and_, _or_, alike, Outcome, don
 use Rattle.circle.specs.Circle.{forward}
 use Rattle.circle.specs.Lengths.{isLength, isLong, modulusOf, pdcps, pdcpBefore}
 use Rattle.frame_layout.specs.Frames.{Range, Status, Reading, data-of, status-of, refuse, readFrame}
-use Rattle.bearer.specs.Bearer.{mostEntries, After, refusing, answering}
+use Rattle.bearer.specs.Bearer.{mostEntries, mostSize, After, refusing, answering}
 
 -- what became of a packet that the master still holds
 pub data Fate : Type 0 where
   waiting : Fate
   lost : Fate
 
--- a packet that went out: its two numbers, its fate, and the label
+-- a packet that went out: its two numbers, the PDU's size in octets, its fate, and the label
 pub record Entry (A : Type 0) : Type 0 where
   pub number : ℕ
   pub pdcp : ℕ
+  pub size : ℕ
   pub fate : Fate
   pub label : A
 
@@ -139,23 +141,28 @@ follows l p (e ∷ es) = pastLast l (e .pdcp) p and withinHalf l (e .pdcp) p
 abbrev pub inOrder : {A : Type 0} → Ledger A → ℕ → Bool
 inOrder l p = not (eqb p (l .highest)) and follows l p (drop (l .oldest) (l .entries))
 
+-- a PDU's size is within its limits, 1 to 16,384 octets
+abbrev pub isSize : ℕ → Bool
+isSize z = leb 1 z and leb z mostSize
+
 -- the entry of a send: it waits
-abbrev pub newEntry : {A : Type 0} → ℕ → ℕ → A → Entry A
-newEntry n p a = record { number = n; pdcp = p; fate = waiting; label = a }
+abbrev pub newEntry : {A : Type 0} → ℕ → ℕ → ℕ → A → Entry A
+newEntry n p z a = record { number = n; pdcp = p; size = z; fate = waiting; label = a }
 
 -- the state after an accepted send; where none waited the new entry is the oldest that waits, and stands behind all others
-abbrev pub sentState : {A : Type 0} → Ledger A → ℕ → A → Ledger A
-sentState l p a =
-    l with-next (l .next + 1) % modulusOf (l .bits) with-sent p with-entries l .entries ++ (newEntry (l .next) p a ∷ [])
+abbrev pub sentState : {A : Type 0} → Ledger A → ℕ → ℕ → A → Ledger A
+sentState l p z a =
+    l with-next (l .next + 1) % modulusOf (l .bits) with-sent p with-entries l .entries ++ (newEntry (l .next) p z a ∷ [])
 
--- send of a PDCP number: 9, 10, 35, 36, or the X2-U number given out
-abbrev pub send : {A : Type 0} → Ledger A → ℕ → A → After (Ledger A) ℕ
-send l p a =
+-- send of a PDU by its PDCP number and its size: 9, 10, 39, 35, 36, or the X2-U number given out
+abbrev pub send : {A : Type 0} → Ledger A → ℕ → ℕ → A → After (Ledger A) ℕ
+send l p z a =
     if l .closed then refusing 9 l else
     if not (ltb p (pdcps (l .bits))) then refusing 10 l else
+    if not (isSize z) then refusing 39 l else
     if not (inOrder l p) then refusing 35 l else
     if leb mostEntries (length (l .entries)) then refusing 36 l else
-    answering (l .next) (sentState l p a)
+    answering (l .next) (sentState l p z a)
 
 -- ---- where the oldest waiting entry stands
 
@@ -181,7 +188,7 @@ pub record Passed (A : Type 0) : Type 0 where
 
 -- an entry, lost
 abbrev pub asLost : {A : Type 0} → Entry A → Entry A
-asLost e = record { number = e .number; pdcp = e .pdcp; fate = lost; label = e .label }
+asLost e = record { number = e .number; pdcp = e .pdcp; size = e .size; fate = lost; label = e .label }
 
 -- an entry waits and bears the number
 abbrev pub bears : {A : Type 0} → Entry A → ℕ → Bool
@@ -282,14 +289,15 @@ abbrev pub takeAt : {A : Type 0} → Bool → List (Entry A) → ℕ
 takeAt closed [] = 0
 takeAt closed (e ∷ es) = if closed or not (waits e) then 0 else suc (takeAt closed es)
 
--- the two numbers of what was taken
+-- the two numbers and the size of what was taken
 pub record Taken : Type 0 where
   pub number : ℕ
   pub pdcp : ℕ
+  pub size : ℕ
 
 -- those of an entry
 abbrev pub takenOf : {A : Type 0} → Entry A → Taken
-takenOf e = record { number = e .number; pdcp = e .pdcp }
+takenOf e = record { number = e .number; pdcp = e .pdcp; size = e .size }
 
 -- a place, when an entry at another has left: one less if that stood in front of it; if it stood there itself, the next one stands there now
 abbrev pub placeWithout : ℕ → ℕ → ℕ
@@ -300,6 +308,18 @@ abbrev pub takeFrom : {A : Type 0} → Ledger A → List (Entry A) → List (Ent
 takeFrom l front [] = refusing 38 l
 takeFrom l front (e ∷ es) = answering (takenOf e) (holding l (placeWithout (length front) (l .oldest)) (front ++ es))
 
--- take: 38, or the two numbers
+-- take: 38, or the two numbers and the size
 abbrev pub takeOldest : {A : Type 0} → Ledger A → After (Ledger A) Taken
 takeOldest l = takeFrom l (take (takeAt (l .closed) (l .entries)) (l .entries)) (drop (takeAt (l .closed) (l .entries)) (l .entries))
+
+-- ---- room
+
+-- the sizes of the waiting entries, added up
+abbrev pub waitingSizes : {A : Type 0} → List (Entry A) → ℕ
+waitingSizes [] = 0
+waitingSizes (e ∷ es) = if waits e then e .size + waitingSizes es else waitingSizes es
+
+-- room, of every state, a closed one too: the desired size of the last accepted status less the sizes of all waiting entries. A difference that
+-- would be negative is 0, and so is the desired size before any status
+abbrev pub room : {A : Type 0} → Ledger A → ℕ
+room l = l .desired - waitingSizes (l .entries)

@@ -1,24 +1,27 @@
 -- What the master's machine means: every ledger that calls reach from open is as document 01 says, with 35 as request Three of document 02
--- mends it, on packet indexes that never roll over, whatever frames were accepted on the way. Packet i is the i-th accepted send. The
--- statements are `LedgersMean`, `SendsMean`, `TakesMean` and `StatusesMean`, at the end; they are proved in proofs/Master/LedgerMeans.antt.
+-- mends it and sizes and room as request Four adds them, on packet indexes that never roll over, whatever frames were accepted on the way. Packet
+-- i is the i-th accepted send. The statements are `LedgersMean`, `SendsMean`, `TakesMean` and `StatusesMean`, at the end; they are proved in
+-- proofs/Master/LedgerMeans.antt.
 -- Assumes nothing.
 use mathlib.Core.Path.{_≡_}
 use mathlib.Core.Bool.{true, false, not, Bool}
 use mathlib.Core.List.{List, [], _∷_, _++_, map}
-use Prim.Native.Nat.{ℕ, _+_, _-_, _^_, _≤_, _<_}
+use Prim.Native.Nat.{ℕ, _+_, _*_, _-_, _^_, _≤_, _<_}
 use lib.ListN.{length, getD}
 use Rattle.basics.specs.Basics.{if_then_else_, done, _or_}
 use Rattle.circle.specs.Circle.{forward}
 use Rattle.frame_layout.specs.Frames.{Status, status-of, readFrame}
-use Rattle.bearer.specs.Ledger.{waiting, lost, Entry, Ledger, Accepted, Taken, openLedger, send, accept, takeOldest}
+use Rattle.bearer.specs.Ledger.{waiting, lost, Entry, Ledger, Accepted, Taken, openLedger, send, accept, takeOldest, room}
 use Rattle.bearer.specs.Packets.{numberOf, oneBefore, lastOf, packets, Rising, In, inRanges, Each}
 
--- A master's end by its accepted calls: the PDCP numbers of the sends (packet i is the i-th of them), how many were freed and taken, added up
--- from the answers, the highest and both sizes of the last status, and whether one had Final.
+-- A master's end by its accepted calls: the PDCP numbers and the sizes of the sends (packet i is the i-th of them), how many were freed and taken,
+-- added up from the answers, whether a status has come, the highest and both sizes of the last one, and whether one had Final.
 pub record Books : Type 0 where
   pub sent : List ℕ
+  pub sizes : List ℕ
   pub freed : ℕ
   pub taken : ℕ
+  pub heard : Bool
   pub highest : ℕ
   pub desired : ℕ
   pub minimum : ℕ
@@ -28,8 +31,10 @@ pub record Books : Type 0 where
 abbrev pub begun : ℕ → ℕ → Books
 begun L f = record {
   sent = [];
+  sizes = [];
   freed = 0;
   taken = 0;
+  heard = false;
   highest = oneBefore L f;
   desired = 0;
   minimum = 0;
@@ -37,28 +42,31 @@ begun L f = record {
 }
 
 -- books whose parts are put anew; beside begun ones, the one place that says every field
-abbrev pub changed : List ℕ → ℕ → ℕ → ℕ → ℕ → ℕ → Bool → Books
-changed sent freed taken highest desired minimum final = record {
+abbrev pub changed : List ℕ → List ℕ → ℕ → ℕ → Bool → ℕ → ℕ → ℕ → Bool → Books
+changed sent sizes freed taken heard highest desired minimum final = record {
   sent = sent;
+  sizes = sizes;
   freed = freed;
   taken = taken;
+  heard = heard;
   highest = highest;
   desired = desired;
   minimum = minimum;
   final = final;
 }
 
--- a PDCP number more was sent
-abbrev pub sending : Books → ℕ → Books
-sending b p = changed (b .sent ++ (p ∷ [])) (b .freed) (b .taken) (b .highest) (b .desired) (b .minimum) (b .final)
+-- a PDU more was sent: its PDCP number and its size
+abbrev pub sending : Books → ℕ → ℕ → Books
+sending b p z =
+    changed (b .sent ++ (p ∷ [])) (b .sizes ++ (z ∷ [])) (b .freed) (b .taken) (b .heard) (b .highest) (b .desired) (b .minimum) (b .final)
 
 -- a status was accepted, which freed so many: "Both sizes replace the former ones. Final closes this end."
 abbrev pub accepting : Books → Status → ℕ → Books
-accepting b s freed = changed (b .sent) (b .freed + freed) (b .taken) (s .highest) (s .desired) (s .minimum) (s .final)
+accepting b s freed = changed (b .sent) (b .sizes) (b .freed + freed) (b .taken) true (s .highest) (s .desired) (s .minimum) (s .final)
 
 -- an entry was taken
 abbrev pub taking : Books → Books
-taking b = changed (b .sent) (b .freed) (b .taken + 1) (b .highest) (b .desired) (b .minimum) (b .final)
+taking b = changed (b .sent) (b .sizes) (b .freed) (b .taken + 1) (b .heard) (b .highest) (b .desired) (b .minimum) (b .final)
 
 -- "the last PDCP number sent starts there too"
 abbrev pub lastSent : ℕ → ℕ → Books → ℕ
@@ -70,8 +78,8 @@ pub data LedgerReached (L first f : ℕ) : Ledger ℕ → Books → Type 0 where
   -- a fresh end
   opened : {l : Ledger ℕ} → openLedger L first f ≡ done l → LedgerReached L first f l (begun L f)
   -- a packet was sent
-  sends : {l : Ledger ℕ} {b : Books} (p n : ℕ) → LedgerReached L first f l b → send l p (length (b .sent)) .answer ≡ done n
-      → LedgerReached L first f (send l p (length (b .sent)) .state) (sending b p)
+  sends : {l : Ledger ℕ} {b : Books} (p z n : ℕ) → LedgerReached L first f l b → send l p z (length (b .sent)) .answer ≡ done n
+      → LedgerReached L first f (send l p z (length (b .sent)) .state) (sending b p z)
   -- octets were accepted, which are those of a status
   accepts : {l : Ledger ℕ} {b : Books} (octets : List ℕ) (s : Status) (a : Accepted) → LedgerReached L first f l b → readFrame octets ≡ status-of s
       → accept l octets .answer ≡ done a → LedgerReached L first f (accept l octets .state) (accepting b s (a .freed))
@@ -107,25 +115,41 @@ oldestPdcp (e ∷ es) = e .pdcp
 abbrev pub fromOldest : ℕ → Ledger ℕ → Entry ℕ → ℕ
 fromOldest L l e = forward (2 ^ L) (oldestPdcp (waitingIn (l .entries))) (e .pdcp)
 
+-- the sizes of packets, added up
+abbrev pub octetsOf : Books → List ℕ → ℕ
+octetsOf b [] = 0
+octetsOf b (i ∷ is) = getD (b .sizes) i 0 + octetsOf b is
+
+-- "Room is the desired size of the last accepted status less the sizes of all waiting entries, and 0 where that would be negative or no status
+-- has come" (request Four), by the packets that wait; a difference of numbers that would be negative is 0
+abbrev pub roomBy : Books → List ℕ → ℕ
+roomBy b ws = if b .heard then b .desired - octetsOf b ws else 0
+
 -- ---- what a ledger means
 
 -- What a ledger means, by its books.
 pub record LedgerMeans (L first f : ℕ) (l : Ledger ℕ) (b : Books) : Type 0 where
   -- the bearer's L
   pub same-length : l .bits ≡ L
-  -- H, the last PDCP number sent and both sizes are the books'; the end is closed exactly if an accepted frame had Final
+  -- H, the last PDCP number sent and both sizes of the last status are the books'; the end is closed exactly if an accepted frame had Final
   pub highest-is : l .highest ≡ b .highest
   pub last-is : l .sent ≡ lastSent L f b
   pub desired-is : l .desired ≡ b .desired
   pub minimum-is : l .minimum ≡ b .minimum
   pub closed-is : l .closed ≡ b .final
+  -- room is what the books say, whether the end is closed or not
+  pub room-is : room l ≡ roomBy b (packets (waitingIn (l .entries)))
   -- "Each accepted send is now waiting, lost, freed or taken": the four counts sum to the accepted sends
   pub sum : length (waitingIn (l .entries)) + length (lostIn (l .entries)) + b .freed + b .taken ≡ length (b .sent)
-  -- entries stand in sending order, and each bears its packet's two numbers
+  -- entries stand in sending order, and each bears its packet's two numbers and its size
   pub in-order : Rising (packets (l .entries))
   pub were-sent : Each (λ (e : Entry ℕ). e .label < length (b .sent)) (l .entries)
   pub numbered : Each (λ (e : Entry ℕ). e .number ≡ numberOf L first (e .label)) (l .entries)
   pub pdcps-are : Each (λ (e : Entry ℕ). e .pdcp ≡ getD (b .sent) (e .label) 0) (l .entries)
+  pub sizes-are : Each (λ (e : Entry ℕ). e .size ≡ getD (b .sizes) (e .label) 0) (l .entries)
+  -- each size is within its limits, and so those of what waits, added up, stay far below 2^32
+  pub sizes-within : Each (λ (e : Entry ℕ). (1 ≤ e .size) × (e .size ≤ 16384)) (l .entries)
+  pub octets-within : octetsOf b (packets (waitingIn (l .entries))) ≤ 512 * 16384
   -- "Numbers go out consecutively modulo M": the next one is the next packet's
   pub next-is : l .next ≡ numberOf L first (length (b .sent))
   -- the ledger knows where the oldest waiting entry stands: behind the lost ones in front of it
@@ -147,7 +171,7 @@ pub record LedgerMeans (L first f : ℕ) (l : Ledger ℕ) (b : Books) : Type 0 w
 -- Waiting entries turned lost, and their numbers in sending order. Every other entry is as it was, a lost one of the same number too.
 pub data TurnedLost : List ℕ → List (Entry ℕ) → List (Entry ℕ) → Type 0 where
   turned-end : TurnedLost [] [] []
-  turns : {ns : List ℕ} {es ds : List (Entry ℕ)} (e : Entry ℕ) → isWaiting e ≡ true → TurnedLost ns es ds → TurnedLost (e .number ∷ ns) (e ∷ es) (record { number = e .number; pdcp = e .pdcp; fate = lost; label = e .label } ∷ ds)
+  turns : {ns : List ℕ} {es ds : List (Entry ℕ)} (e : Entry ℕ) → isWaiting e ≡ true → TurnedLost ns es ds → TurnedLost (e .number ∷ ns) (e ∷ es) (record { number = e .number; pdcp = e .pdcp; size = e .size; fate = lost; label = e .label } ∷ ds)
   as-it-was : {ns : List ℕ} {es ds : List (Entry ℕ)} (e : Entry ℕ) → TurnedLost ns es ds → TurnedLost ns (e ∷ es) (e ∷ ds)
 
 -- The waiting entries through packet g left; every other entry is as it was.
@@ -179,9 +203,10 @@ pub record StatusMeans (L : ℕ) (sent : List ℕ) (l : Ledger ℕ) (octets : Li
 
 -- ---- what an accepted take means
 
--- "Take removes the oldest lost entry and answers its two numbers. Once closed it takes the oldest entry, lost or waiting."
+-- "Take removes the oldest lost entry and answers its two numbers. Once closed it takes the oldest entry, lost or waiting.", and the size "given at
+-- send and answered by take" (request Four)
 pub data TakenFrom (closed : Bool) (t : Taken) : List (Entry ℕ) → List (Entry ℕ) → Type 0 where
-  this-one : (e : Entry ℕ) (es : List (Entry ℕ)) → closed or not (isWaiting e) ≡ true → t ≡ record { number = e .number; pdcp = e .pdcp } → TakenFrom closed t (e ∷ es) es
+  this-one : (e : Entry ℕ) (es : List (Entry ℕ)) → closed or not (isWaiting e) ≡ true → t ≡ record { number = e .number; pdcp = e .pdcp; size = e .size } → TakenFrom closed t (e ∷ es) es
   passes-over : {es ds : List (Entry ℕ)} (e : Entry ℕ) → closed ≡ false → isWaiting e ≡ true → TakenFrom closed t es ds → TakenFrom closed t (e ∷ es) (e ∷ ds)
 
 -- ---- the statements
@@ -193,9 +218,9 @@ LedgersMean = (L first f : ℕ) (l : Ledger ℕ) (b : Books) → LedgerReached L
 -- "Send .. adds a waiting entry and answers its X2-U number": those of the next packet
 abbrev pub SendsMean : Type 0
 SendsMean =
-    (L first f : ℕ) (l : Ledger ℕ) (b : Books) → LedgerReached L first f l b → (p n : ℕ) → send l p (length (b .sent)) .answer ≡ done n
+    (L first f : ℕ) (l : Ledger ℕ) (b : Books) → LedgerReached L first f l b → (p z n : ℕ) → send l p z (length (b .sent)) .answer ≡ done n
     → (n ≡ numberOf L first (length (b .sent)))
-    × (send l p (length (b .sent)) .state .entries ≡ l .entries ++ (record { number = n; pdcp = p; fate = waiting; label = length (b .sent) } ∷ []))
+    × (send l p z (length (b .sent)) .state .entries ≡ l .entries ++ (record { number = n; pdcp = p; size = z; fate = waiting; label = length (b .sent) } ∷ []))
 
 -- every take, whatever the ledger
 abbrev pub TakesMean : Type 0

@@ -134,11 +134,16 @@ FollowsOldest L f b (i ∷ is) p =
 abbrev pub OutOfOrder : ℕ → ℕ → Books → List ℕ → ℕ → Type 0
 OutOfOrder L f b waiting p = (p ≡ b .highest → ⊥) × FollowsOldest L f b waiting p → ⊥
 
--- "Send: 9, 10, 35, 36."
-abbrev pub sendRefusals : ℕ → ℕ → Books → List ℕ → List ℕ → ℕ → List Refusal
-sendRefusals L f b waiting lost p =
+-- 39: "a size outside the limits", which are "1 to 16,384 octets" (request Four)
+abbrev pub NoSize : ℕ → Type 0
+NoSize z = (z < 1) ⊎ (16384 < z)
+
+-- "Send: 9, 10, 39, 35, 36." as request Four leaves it, 39 "after 10 in send"
+abbrev pub sendRefusals : ℕ → ℕ → Books → List ℕ → List ℕ → ℕ → ℕ → List Refusal
+sendRefusals L f b waiting lost p z =
     (9 when (b .final ≡ true))
     ∷ (10 when (2 ^ L ≤ p))
+    ∷ (39 when NoSize z)
     ∷ (35 when OutOfOrder L f b waiting p)
     ∷ (36 when (512 ≤ length waiting + length lost))
     ∷ []
@@ -186,7 +191,7 @@ pub record SecondaryKeeps (k : K.Keeper) : Type 0 where
 
 -- each call on a master, whatever its entries are labelled with
 pub record MasterKeeps {A : Type 0} (l : G.Ledger A) : Type 0 where
-  pub sends : (p : ℕ) (label : A) → Keeps l (G.send l p label)
+  pub sends : (p z : ℕ) (label : A) → Keeps l (G.send l p z label)
   pub accepts : (octets : List ℕ) → Keeps l (G.accept l octets)
   pub takes : Keeps l (G.takeOldest l)
 
@@ -214,7 +219,7 @@ SecondaryGiven = (L first f : ℕ) (k : K.Keeper) (a : Account) → Reached L fi
 -- each call on a master that calls reach, where these packets wait and these are lost; a frame is of octets, so that its ranges are of
 -- numbers below M
 pub record MasterCallsGiven (L first f : ℕ) (l : G.Ledger ℕ) (b : Books) (waiting lost : List ℕ) : Type 0 where
-  pub sends : (p : ℕ) → Given (sendRefusals L f b waiting lost p) (G.send l p (length (b .sent)) .answer)
+  pub sends : (p z : ℕ) → Given (sendRefusals L f b waiting lost p z) (G.send l p z (length (b .sent)) .answer)
   pub accepts : (octets : List ℕ) → AreOctets octets → Given (acceptRefusals L first b waiting octets) (G.accept l octets .answer)
   pub takes : Given (takeRefusals b waiting lost) (G.takeOldest l .answer)
 

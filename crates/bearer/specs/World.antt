@@ -17,10 +17,10 @@ use Rattle.bearer.specs.Packets.{numberOf, packets}
 
 -- ---- the calls and the backhaul
 
--- what may happen next
+-- what may happen next; to ask the master for room changes neither end, and so is no event
 pub data Event : Type 0 where
-  -- the master is asked to send a PDCP number
-  send : ℕ → Event
+  -- the master is asked to send a PDU: its PDCP number and its size
+  send : ℕ → ℕ → Event
   -- a copy of a packet arrives at the secondary: the first one, or a repeat, at any time
   copy : ℕ → Event
   -- the secondary is handed numbers that are no packet's
@@ -198,7 +198,7 @@ openedOr s (refused n) = s
 
 -- the world after an event, on a bearer with this L and this first number
 abbrev pub step : ℕ → ℕ → World → Event → World
-step L first w (send p) = afterSend w p (G.send (w .ledger) p (length (w .sent)))
+step L first w (send p z) = afterSend w p (G.send (w .ledger) p z (length (w .sent)))
 step L first w (copy i) = atSecondary w (K.arrive (w .keeper) (numberOf L first i) (getD (w .sent) i 0) .state) (arrival (w .fates) i)
 step L first w (stray n p) = atSecondary w (K.arrive (w .keeper) n p .state) (w .fates)
 step L first w expire = atSecondary w (K.expire (w .keeper) .state) (expiry (w .fates))

@@ -17,7 +17,7 @@ use Rattle.bearer.specs.Demand3.{Allowed, AllAllowed, after}
 
 -- an event passes
 abbrev pub isAllowed : ℕ → World → Event → Bool
-isAllowed L w (send p) = true
+isAllowed L w (send p z) = true
 isAllowed L w (copy i) = ltb i (length (w .sent)) and leb (length (w .sent)) (i + half L)
 isAllowed L w (stray n p) = not (isDone (K.arrive (w .keeper) n p .answer))
 isAllowed L w expire = true
@@ -31,7 +31,7 @@ isAllowed L w (open-master bits n f) = not (isDone (G.openLedger {A = ℕ} bits 
 
 -- an event that passes is allowed
 allowed : (L : ℕ) (w : World) (e : Event) → isAllowed L w e ≡ true → Allowed L w e
-allowed L w (send p) t = tt
+allowed L w (send p z) t = tt
 allowed L w (copy i) t =
     let b = and-true (ltb i (length (w .sent))) (leb (length (w .sent)) (i + half L)) t in
     (ltb-true i (length (w .sent)) (b .0), leb-true (length (w .sent)) (i + half L) (b .1))

@@ -56,10 +56,10 @@ fresh L = freshWorld (K.freshKeeper L (first L) (pdcp L 0)) (G.freshLedger L (fi
 abbrev pub world : ℕ → List Event → World
 world L es = after L (first L) (fresh L) es
 
--- so many packets from i on are sent, with consecutive PDCP numbers
+-- so many packets from i on are sent, with consecutive PDCP numbers, each of i + 1 octets
 abbrev sends : ℕ → ℕ → ℕ → List Event
 sends L i zero = []
-sends L i (suc n) = send (pdcp L i) ∷ sends L (suc i) n
+sends L i (suc n) = send (pdcp L i) (i + 1) ∷ sends L (suc i) n
 
 -- a status is asked for, Final or not
 abbrev asked : Bool → Event
@@ -78,14 +78,15 @@ held-back L =
 
 -- A status carries the other runs, and one lost packet is taken. Numbers that are no packet's come to the secondary: one that is M or more, and
 -- one that is late; other octets come to the master, and opens that are refused to both. The bearer rests while half the PDCP numbers go over the
--- master alone; then one more packet is sent, comes and is confirmed; a Final closes both ends, and a repeat after it is refused.
+-- master alone; then one more packet, which was refused with a size past the limit, is sent, comes and is confirmed; a Final closes both ends, and a
+-- repeat after it is refused.
 abbrev pub to-the-end : ℕ → List Event
 to-the-end L =
     asked false ∷ deliver ∷ take-one
     ∷ stray (modulusOf L) 0 ∷ stray (number L (half L + 400)) 0
     ∷ other []
     ∷ open-secondary 13 0 0 ∷ open-master L (modulusOf L) 0
-    ∷ send (rested L) ∷ copy 360 ∷ confirm (number L 360) ∷ asked true ∷ copy 360 ∷ deliver ∷ take-one ∷ []
+    ∷ send (rested L) 16385 ∷ send (rested L) 16384 ∷ copy 360 ∷ confirm (number L 360) ∷ asked true ∷ copy 360 ∷ deliver ∷ take-one ∷ []
 
 -- one after the other
 abbrev pub run : ℕ → List Event
@@ -112,6 +113,8 @@ seen-then L w =
     ∷ (w .ledger .highest ∷ [] is pdcp L 345 ∷ [])
     -- so the master has freed what came through 345
     ∷ (w .freed is 0 ∷ 1 ∷ second 23 162)
+    -- 346 to 359 wait, and are taken away from the desired size
+    ∷ (G.room (w .ledger) ∷ [] is (65536 - 4949) ∷ [])
     -- and 7 runs, and the records of 7 packets though these are confirmed, stay with the secondary
     ∷ (map (λ (r : Range). r .start) (w .keeper .runs) is map (number L) (second 346 7))
     ∷ (K.held (w .keeper) is map (number L) (second 347 7))
@@ -133,6 +136,8 @@ seen-at-end L w =
     ∷ (length (w .sent) ∷ length (w .freed) ∷ length (w .ledger .entries) ∷ [] is 361 ∷ 172 ∷ 187 ∷ [])
     -- three frames were built and delivered, and both ends are closed
     ∷ (length (w .built) ∷ w .delivered ∷ bit (w .keeper .closed) ∷ bit (w .ledger .closed) ∷ [] is 3 ∷ 3 ∷ 1 ∷ 1 ∷ [])
+    -- none waits: there is all the room that was desired
+    ∷ (G.room (w .ledger) ∷ [] is 65536 ∷ [])
     -- the master's next X2-U number and its last PDCP number
     ∷ (w .ledger .next ∷ w .ledger .sent ∷ [] is 351 ∷ rested L ∷ [])
     ∷ []

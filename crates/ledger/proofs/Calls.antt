@@ -16,7 +16,7 @@ use Rattle.circle.specs.Lengths.{isLength, isLong, modulusOf, pdcps, pdcpBefore
 use Rattle.circle.proofs.Forms.{length-read}
 use Rattle.frame_layout.specs.Frames.{Status, readFrame}
 use Rattle.bearer.specs.Bearer.{mostEntries}
-use Rattle.bearer.specs.Ledger.{Entry, Ledger, Passed, fresh, inOrder, newEntry, send, waitingAt, markLost, waitsFor, freed, freeThrough, acceptedState, acceptMarked, acceptStatus, acceptReading, accept, openLedger, takeAt, placeWithout, takeOldest, _with-next_, _with-highest_, _with-sent_, _with-closed_, _with-sizes-of_, _with-oldest_, _with-entries_}
+use Rattle.bearer.specs.Ledger.{Entry, Ledger, Passed, fresh, isSize, inOrder, newEntry, send, waitingAt, markLost, waitsFor, freed, freeThrough, acceptedState, acceptMarked, acceptStatus, acceptReading, accept, openLedger, takeAt, placeWithout, takeOldest, _with-next_, _with-highest_, _with-sent_, _with-closed_, _with-sizes-of_, _with-oldest_, _with-entries_}
 use Rattle.frame_reader.specs.declared.Frame.{Frame}
 use Rattle.frame_reader.specs.Answers.{readingOf}
 use Rattle.ledger_marks.specs.declared.Marked.{Marked}
@@ -62,28 +62,38 @@ module _ (l : Ledger Unit) (p : ℕ) where
     pub order-oldest : {x : Entry Unit} → Stands (l .entries) (l .oldest) x → inOrder l p ≡ followsFrom (l .bits) (x .pdcp) (l .sent) p
     order-oldest at = rw (ne-eqb p (l .highest) a, at .rest)
 
+-- what is tested in front of the order: the end is open, the number below 2^L, and the size within its limits
+pub record Fit (l : Ledger Unit) (p z : ℕ) : Type 0 where
+  pub open-end : l .closed ≡ false
+  pub below : p < pdcps (l .bits)
+  pub sized : isSize z ≡ true
+
 -- the call, by its tests
-module _ (l : Ledger Unit) (p : ℕ) where
-  pub send-closed : l .closed ≡ true → send l p tt ≡ beside (refused 9) l
+module _ (l : Ledger Unit) (p z : ℕ) where
+  pub send-closed : l .closed ≡ true → send l p z tt ≡ beside (refused 9) l
   send-closed a = rw a
 
   module _ (a : l .closed ≡ false) where
-    pub send-number : pdcps (l .bits) ≤ p → send l p tt ≡ beside (refused 10) l
+    pub send-number : pdcps (l .bits) ≤ p → send l p z tt ≡ beside (refused 10) l
     send-number b = rw (a, le-ltb p (pdcps (l .bits)) b)
 
-    module _ (b : p < pdcps (l .bits)) where
-      pub send-order : inOrder l p ≡ false → send l p tt ≡ beside (refused 35) l
-      send-order o = rw (o, a, lt-ltb p (pdcps (l .bits)) b)
+    pub send-size : p < pdcps (l .bits) → isSize z ≡ false → send l p z tt ≡ beside (refused 39) l
+    send-size b s = rw (s, a, lt-ltb p (pdcps (l .bits)) b)
 
-      module _ (o : inOrder l p ≡ true) where
-        pub send-full : mostEntries ≤ length (l .entries) → send l p tt ≡ beside (refused 36) l
-        send-full f = rw (o, a, lt-ltb p (pdcps (l .bits)) b, le-leb mostEntries (length (l .entries)) f)
+module _ {l : Ledger Unit} {p z : ℕ} (fit : Fit l p z) where
+  pub send-order : inOrder l p ≡ false → send l p z tt ≡ beside (refused 35) l
+  send-order o = rw (fit .sized, o, fit .open-end, lt-ltb p (pdcps (l .bits)) (fit .below))
 
-        -- the next number and the entries are the machine's
-        pub send-done : length (l .entries) < mostEntries → (next : ℕ) → next ≡ (l .next + 1) % modulusOf (l .bits)
-            → (es : List (Entry Unit)) → es ≡ l .entries ++ (newEntry (l .next) p tt ∷ [])
-            → beside (done (l .next)) (l with-next next with-sent p with-entries es) ≡ send l p tt
-        send-done f next n es e = rw (o, a, lt-ltb p (pdcps (l .bits)) b, lt-leb mostEntries (length (l .entries)) f, n, e)
+  module _ (o : inOrder l p ≡ true) where
+    pub send-full : mostEntries ≤ length (l .entries) → send l p z tt ≡ beside (refused 36) l
+    send-full f = rw (fit .sized, o, fit .open-end, lt-ltb p (pdcps (l .bits)) (fit .below), le-leb mostEntries (length (l .entries)) f)
+
+    -- the next number and the entries are the machine's
+    pub send-done : length (l .entries) < mostEntries → (next : ℕ) → next ≡ (l .next + 1) % modulusOf (l .bits)
+        → (es : List (Entry Unit)) → es ≡ l .entries ++ (newEntry (l .next) p z tt ∷ [])
+        → beside (done (l .next)) (l with-next next with-sent p with-entries es) ≡ send l p z tt
+    send-done f next n es e =
+        rw (fit .sized, o, fit .open-end, lt-ltb p (pdcps (l .bits)) (fit .below), lt-leb mostEntries (length (l .entries)) f, n, e)
 
 -- ---- accepting a status
 
@@ -147,7 +157,7 @@ module _ (l : Ledger Unit) (i : ℕ) (e : i ≡ takeAt (l .closed) (l .entries))
   -- the entries and the place of the oldest waiting one are the machine's
   pub take-one : (x : Entry Unit) → Stands (l .entries) i x → (es : List (Entry Unit)) → es ≡ take i (l .entries) ++ drop (i + 1) (l .entries)
       → (place : ℕ) → place ≡ placeWithout i (l .oldest) + waitingAt (drop (placeWithout i (l .oldest)) es)
-      → beside (done (record { number = x .number; pdcp = x .pdcp })) (l with-oldest place with-entries es) ≡ takeOldest l
+      → beside (done (record { number = x .number; pdcp = x .pdcp; size = x .size })) (l with-oldest place with-entries es) ≡ takeOldest l
   take-one x at es left place found =
       let front : length (take i (l .entries)) ≡ i = length-take-le i (l .entries) (omega (arith, at .inside)) in
       rw (found, left, ← e, at .rest, front, add-one i)

@@ -41,9 +41,10 @@ same-accepted (A.the-variants.Refused n) (A.the-variants.Counts g m y) e = cc
 same-accepted (A.the-variants.Refused n) (A.the-variants.Refused m) e = cc
 
 same-taken : (a b : T.Taken) → takenAs a ≡ takenAs b → a ≡ b
-same-taken (T.the-variants.Packet n p) (T.the-variants.Packet m q) e = ap (λ (w : machine.Taken). T.the-variants.Packet (w .number) (w .pdcp)) (done-one _ _ e)
-same-taken (T.the-variants.Packet n p) (T.the-variants.Refused m) e = cc
-same-taken (T.the-variants.Refused n) (T.the-variants.Packet m q) e = cc
+same-taken (T.the-variants.Packet n p y) (T.the-variants.Packet m q z) e =
+    ap (λ (w : machine.Taken). T.the-variants.Packet (w .number) (w .pdcp) (w .size)) (done-one _ _ e)
+same-taken (T.the-variants.Packet n p y) (T.the-variants.Refused m) e = cc
+same-taken (T.the-variants.Refused n) (T.the-variants.Packet m q z) e = cc
 same-taken (T.the-variants.Refused n) (T.the-variants.Refused m) e = cc
 
 -- ---- each call
@@ -62,12 +63,12 @@ pub one-open : (L first f : ℕ) (r s : Opening)
 one-open L first f r s = alike openedAs same-opened (r .answer) (s .answer) (ledgerIn (r .ledger)) (ledgerIn (s .ledger)) refl
 
 module _ (l m : Ledger) (same : ledgerIn l ≡ ledgerIn m) where
-  pub one-send : (p : ℕ) (r s : Sending)
-      → beside (sentAs (r .answer)) (ledgerIn (r .ledger)) ≡ machine.send (ledgerIn l) p tt
-      → beside (sentAs (s .answer)) (ledgerIn (s .ledger)) ≡ machine.send (ledgerIn m) p tt
+  pub one-send : (p z : ℕ) (r s : Sending)
+      → beside (sentAs (r .answer)) (ledgerIn (r .ledger)) ≡ machine.send (ledgerIn l) p z tt
+      → beside (sentAs (s .answer)) (ledgerIn (s .ledger)) ≡ machine.send (ledgerIn m) p z tt
       → (r .answer ≡ s .answer) × (ledgerIn (r .ledger) ≡ ledgerIn (s .ledger))
-  one-send p r s =
-      alike sentAs same-sent (r .answer) (s .answer) (ledgerIn (r .ledger)) (ledgerIn (s .ledger)) (ap (λ (x : machine.Ledger Unit). machine.send x p tt) same)
+  one-send p z r s =
+      alike sentAs same-sent (r .answer) (s .answer) (ledgerIn (r .ledger)) (ledgerIn (s .ledger)) (ap (λ (x : machine.Ledger Unit). machine.send x p z tt) same)
 
   pub one-accept : (octets : List ℕ) (r s : Accepting)
       → beside (acceptedAs (r .answer)) (ledgerIn (r .ledger)) ≡ machine.accept (ledgerIn l) octets
@@ -81,3 +82,6 @@ module _ (l m : Ledger) (same : ledgerIn l ≡ ledgerIn m) where
       → beside (takenAs (s .answer)) (ledgerIn (s .ledger)) ≡ machine.takeOldest (ledgerIn m)
       → (r .answer ≡ s .answer) × (ledgerIn (r .ledger) ≡ ledgerIn (s .ledger))
   one-take r s = alike takenAs same-taken (r .answer) (s .answer) (ledgerIn (r .ledger)) (ledgerIn (s .ledger)) (ap machine.takeOldest same)
+
+  pub one-room : (r s : ℕ) → r ≡ machine.room (ledgerIn l) → s ≡ machine.room (ledgerIn m) → r ≡ s
+  one-room r s x y = x ∙ ap machine.room same ∙ sym y

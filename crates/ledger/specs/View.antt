@@ -49,9 +49,9 @@ abbrev pub acceptedAs : A.Accepted → Outcome machine.Accepted
 acceptedAs (A.the-variants.Counts freed lost last) = done (record { freed = freed; lost = lost; final = last })
 acceptedAs (A.the-variants.Refused n) = refused n
 
--- a take answers the two numbers of what was taken
+-- a take answers the two numbers and the size of what was taken
 abbrev pub takenAs : T.Taken → Outcome machine.Taken
-takenAs (T.the-variants.Packet number pdcp) = done (record { number = number; pdcp = pdcp })
+takenAs (T.the-variants.Packet number pdcp size) = done (record { number = number; pdcp = pdcp; size = size })
 takenAs (T.the-variants.Refused n) = refused n
 
 -- an answer beside the state after the call

@@ -1,9 +1,9 @@
-// The master's ledger (MeNB end): open, send, accepting a status, take. The state is a struct by value; its entries stand
+// The master's ledger (MeNB end): open, send, accepting a status, take, room. The state is a struct by value; its entries stand
 // in sending order from slot 0 on (the crate ledger_entries). specs/View.antt says how a state and the answers are read.
 ghost use mathlib.Core.Path.{_≡_};
 ghost use Rattle.basics.specs.Basics.{refused, alike};
 ghost use Rattle.circle.specs.Lengths.{isLong, lengthIn};
-ghost use Rattle.bearer.specs.Ledger.{fresh as «freshOf», openLedger, send as «sendOf», accept as «acceptOf», takeOldest, markLost, acceptStatus, acceptMarked};
+ghost use Rattle.bearer.specs.Ledger.{fresh as «freshOf», openLedger, isSize, send as «sendOf», accept as «acceptOf», takeOldest, markLost, acceptStatus, acceptMarked, room as «roomOf»};
 ghost use Rattle.frame_reader.specs.Answers.{cursorOf, Held};
 ghost use Rattle.ledger.specs.View.{ledgerIn, openedAs, sentAs, acceptedAs, takenAs, beside, opens};
 ghost use Rattle.ledger.specs.Steps.{followsFrom, statusIn};
@@ -12,6 +12,9 @@ use frame_reader::Head;
 pub use ledger_entries::Entry;
 pub use ledger_entries::Fate;
 use ledger_entries::MOST_ENTRIES;
+
+// How many octets a PDU has at most (refusal 39).
+const MOST_SIZE: u32 = 16384;
 
 // The master's end: the entries and how many they are, L, the next X2-U number, the highest last accepted, the last PDCP
 // number sent, whether it is closed, both sizes of the last status, and where the oldest waiting entry stands (behind all
@@ -47,9 +50,9 @@ pub enum Accepted {
     Refused(u32),
 }
 
-// What a take answers: the two numbers of what was taken.
+// What a take answers: the two numbers and the size of what was taken.
 pub enum Taken {
-    Packet { number: u32, pdcp: u32 },
+    Packet { number: u32, pdcp: u32, size: u32 },
     Refused(u32),
 }
 
@@ -80,7 +83,7 @@ pub struct Taking {
 fn fresh(bits: u32, next: u32, highest: u32, closed: bool) -> Ledger
     ensures { λ r. ⌜ ledgerIn r ≡ «freshOf» (lengthIn bits) next highest closed ⌝ }
 {
-    let none = ledger_entries::new_entry(0, 0);
+    let none = ledger_entries::new_entry(0, 0, 0);
     Ledger {
         entries: [none; MOST_ENTRIES],
         count: 0,
@@ -128,6 +131,16 @@ pub fn open(bits: u32, first: u32, pdcp: u32) -> Opening
 
 // ---- send
 
+// Whether a PDU's size is within its limits.
+fn is_size(size: u32) -> bool
+    ensures { λ r. ⌜ r ≡ isSize size ⌝ }
+{
+    if size < 1 {
+        return false;
+    }
+    size <= MOST_SIZE
+}
+
 // Whether a PDCP number follows, seen from that of the oldest waiting entry: past the last sent, and less than half the PDCP
 // numbers past the oldest.
 fn follows(bits: u32, oldest: u32, sent: u32, pdcp: u32) -> bool
@@ -152,20 +165,24 @@ fn not_sent(l: Ledger, refusal: u32) -> Sending
     }
 }
 
-// Send of a PDCP number: 9, 10, 35, 36, or the X2-U number given out. 35 is for the highest, and with an entry waiting for a number
-// that doesn't follow the oldest such. That entry is read from `after`, since the compiler reads an entry of `l` through a copy of
-// all of them.
-pub fn send(l: Ledger, pdcp: u32) -> Sending
-    ensures { λ r. ⌜ beside (sentAs (r .answer)) (ledgerIn (r .ledger)) ≡ «sendOf» (ledgerIn l) pdcp tt ⌝ }
+// Send of a PDU by its PDCP number and its size: 9, 10, 39, 35, 36, or the X2-U number given out. 35 is for the highest, and with an
+// entry waiting for a number that doesn't follow the oldest such. That entry is read from `after`, since the compiler reads an entry
+// of `l` through a copy of all of them.
+pub fn send(l: Ledger, pdcp: u32, size: u32) -> Sending
+    ensures { λ r. ⌜ beside (sentAs (r .answer)) (ledgerIn (r .ledger)) ≡ «sendOf» (ledgerIn l) pdcp size tt ⌝ }
 {
     let closed = l.closed;
+    let highest = l.highest;
     if closed {
         return not_sent(l, refusal::CLOSED);
     }
     if circle::pdcps(l.bits) <= pdcp {
         return not_sent(l, refusal::NUMBER);
     }
-    if pdcp == l.highest {
+    if !is_size(size) {
+        return not_sent(l, refusal::SIZE);
+    }
+    if pdcp == highest {
         return not_sent(l, refusal::PDCP_ORDER);
     }
     let mut after = l;
@@ -181,7 +198,7 @@ pub fn send(l: Ledger, pdcp: u32) -> Sending
         return not_sent(l, refusal::ENTRIES);
     }
     let number = l.next;
-    after.entries[n] = ledger_entries::new_entry(number, pdcp);
+    after.entries[n] = ledger_entries::new_entry(number, pdcp, size as u16);
     after.count = n + 1;
     after.next = circle::onward(number, 1, circle::is_long(l.bits));
     after.sent = pdcp;
@@ -279,7 +296,7 @@ pub fn accept(l: Ledger, frame: &[u8]) -> Accepting
 
 // ---- take
 
-// Take: 38, or the two numbers of the oldest entry that may go.
+// Take: 38, or the two numbers and the size of the oldest entry that may go.
 pub fn take(l: Ledger) -> Taking
     ensures { λ r. ⌜ beside (takenAs (r .answer)) (ledgerIn (r .ledger)) ≡ takeOldest (ledgerIn l) ⌝ }
 {
@@ -300,6 +317,7 @@ pub fn take(l: Ledger) -> Taking
         answer: Taken::Packet {
             number: e.number,
             pdcp: e.pdcp,
+            size: e.size as u32,
         },
         ledger: Ledger {
             entries: rest,
@@ -308,4 +326,15 @@ pub fn take(l: Ledger) -> Taking
             ..l
         },
     }
+}
+
+// ---- room
+
+// Room: the desired size of the last accepted status less the sizes of all waiting entries; 0 where that would be negative or no
+// status has come. A closed end answers it too.
+pub fn room(l: Ledger) -> u32
+    ensures { λ r. ⌜ r ≡ «roomOf» (ledgerIn l) ⌝ }
+{
+    let es = l.entries;
+    ledger_entries::less_waiting(es, l.count, l.desired)
 }

@@ -1,4 +1,4 @@
--- The passes over entries that look, free and take, one entry at a time: what is done so far, and what is still to be
+-- The passes over entries that look, free, take and count, one entry at a time: what is done so far, and what is still to be
 -- done, is what the whole pass comes to.
 -- Assumes nothing.
 use mathlib.Core.Path.{_≡_, refl, sym, _∙_, ap}
@@ -6,13 +6,13 @@ use mathlib.Core.Bool.{Bool, true, false, not}
 use mathlib.Core.List.{List, [], _∷_, _++_, append-assoc, append-nil}
 use Prim.Native.Nat.{ℕ, suc, _+_, _-_, _≤_, _<_}
 use native.Mathlib.Numerals.{add-one}
-use native.Mathlib.Nat.{add-zero, zero-add}
+use native.Mathlib.Nat.{add-zero, zero-add, sub-zero}
 use native.Mathlib.Omega.{arith}
 use lib.Dec.{eqb}
 use lib.ListN.{length, getD, set, take, drop, drop-of-length-le}
 use lib.Seq.{take-all, take-suc-set, drop-set-lt}
 use Rattle.basics.specs.Basics.{if_then_else_, _and_, _or_}
-use Rattle.bearer.specs.Ledger.{Entry, Passed, waits, waitingAt, waitsFor, takeAt, kept, counted, freeThrough}
+use Rattle.bearer.specs.Ledger.{Entry, Passed, waits, waitingAt, waitsFor, takeAt, kept, counted, freeThrough, waitingSizes}
 use Rattle.ledger_entries.specs.declared.Entry.{Entry as Slot}
 use Rattle.ledger_entries.specs.View.{entryIn, heldIn}
 use Rattle.ledger_entries.specs.Steps.{freeWhile}
@@ -149,3 +149,19 @@ closed-up xs i all = rw (drop-of-length-le xs all) (append-nil (take (i - 1) xs)
 -- no entry stands at the place
 pub nothing-out : (xs : List (Entry Unit)) (i : ℕ) → length xs ≤ i → take i xs ++ drop (i + 1) xs ≡ xs
 nothing-out xs i none = rw (take-all i xs none, drop-of-length-le xs {i = i + 1} (omega arith)) (append-nil xs)
+
+-- ---- room
+
+-- a size goes, or it stays, with those behind it
+less-with : (goes : Bool) (left size behind : ℕ) → left - (if goes then size + behind else behind) ≡ left - (if goes then size else 0) - behind
+less-with true left size behind = omega arith
+less-with false left size behind = omega arith
+
+-- what an entry takes is taken away, and then what those behind it take
+pub less-one : {xs : List (Entry Unit)} {i : ℕ} {e : Entry Unit} → Stands xs i e → (left : ℕ) {size rest : ℕ}
+    → size ≡ (if waits e then e .size else 0) → rest ≡ left - size → left - waitingSizes (drop i xs) ≡ rest - waitingSizes (drop (i + 1) xs)
+less-one {xs} {i} {e} at left takes less = rw (add-one i, at .rest, less, takes) (less-with (waits e) left (e .size) (waitingSizes (drop (suc i) xs)))
+
+-- all were passed
+pub less-none : (xs : List (Entry Unit)) (i left : ℕ) → length xs ≤ i → left - waitingSizes (drop i xs) ≡ left
+less-none xs i left all = rw (drop-of-length-le xs all) (sub-zero left)

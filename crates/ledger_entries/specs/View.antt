@@ -16,7 +16,7 @@ fateIn F.the-variants.Lost = machine.lost
 
 -- an entry, which bears no label
 abbrev pub entryIn : E.Entry → machine.Entry Unit
-entryIn e = record { number = e .number; pdcp = e .pdcp; fate = fateIn (e .fate); label = tt }
+entryIn e = record { number = e .number; pdcp = e .pdcp; size = e .size; fate = fateIn (e .fate); label = tt }
 
 -- the entries in the first n slots
 abbrev pub entriesIn : List E.Entry → ℕ → List (machine.Entry Unit)

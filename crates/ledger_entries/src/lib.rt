@@ -3,12 +3,12 @@
 ghost use mathlib.Core.Path.{_≡_};
 ghost use mathlib.Core.Bool.{not};
 ghost use mathlib.Core.List.{_++_};
-ghost use Prim.Native.Nat.{_+_, _≤_, min};
+ghost use Prim.Native.Nat.{_+_, _-_, _≤_, min};
 ghost use lib.Dec.{eqb};
 ghost use lib.ListN.{take, drop};
-ghost use Rattle.basics.specs.Basics.{_and_, _or_};
+ghost use Rattle.basics.specs.Basics.{if_then_else_, _and_, _or_};
 ghost use Rattle.bearer.specs.Bearer.{mostEntries};
-ghost use Rattle.bearer.specs.Ledger.{newEntry, waits as «waitsOf», waitingAt, asLost, waitsFor, takeAt, placeWithout};
+ghost use Rattle.bearer.specs.Ledger.{newEntry, waits as «waitsOf», waitingAt, asLost, waitsFor, takeAt, placeWithout, waitingSizes};
 ghost use Rattle.ledger_entries.specs.View.{entryIn, heldIn};
 ghost use Rattle.ledger_entries.specs.Steps.{keptOf, freeWhile};
 
@@ -21,10 +21,12 @@ pub enum Fate {
     Lost,
 }
 
-// A packet that went out.
+// A packet that went out: its two numbers, the PDU's size in octets, and its fate. A size has 16 bits, so that an entry has 12
+// octets as it had without one: a send copies all of them.
 pub struct Entry {
     pub number: u32,
     pub pdcp: u32,
+    pub size: u16,
     pub fate: Fate,
 }
 
@@ -37,12 +39,13 @@ pub struct Kept {
 // ---- an entry
 
 // The entry of a send: it waits.
-pub fn new_entry(number: u32, pdcp: u32) -> Entry
-    ensures { λ r. ⌜ entryIn r ≡ newEntry number pdcp tt ⌝ }
+pub fn new_entry(number: u32, pdcp: u32, size: u16) -> Entry
+    ensures { λ r. ⌜ entryIn r ≡ newEntry number pdcp size tt ⌝ }
 {
     Entry {
         number: number,
         pdcp: pdcp,
+        size: size,
         fate: Fate::Waiting,
     }
 }
@@ -201,4 +204,36 @@ pub fn without(es: [Entry; MOST_ENTRIES], count: usize, at: usize) -> Kept
         entries: ms,
         count: n - 1,
     }
+}
+
+// ---- room
+
+// How much an entry takes of the room: a waiting one its size, a lost one nothing.
+fn takes(e: Entry) -> u32
+    ensures { λ r. ⌜ r ≡ (if «waitsOf» (entryIn e) then e .size else 0) ⌝ }
+{
+    if waits(e) { e.size as u32 } else { 0 }
+}
+
+// What is left of a size when another is taken away: 0 where that is as much or more.
+fn less(left: u32, size: u32) -> u32
+    ensures { λ r. ⌜ r ≡ left - size ⌝ }
+{
+    if left <= size { 0 } else { left - size }
+}
+
+// What is left of a desired size when the sizes of all waiting entries are taken away; 0 where they are as much or more. Sizes are
+// taken away one after another, so that nothing is added up that could overflow, whatever the entries hold.
+pub fn less_waiting(es: [Entry; MOST_ENTRIES], count: usize, desired: u32) -> u32
+    ensures { λ r. ⌜ r ≡ desired - waitingSizes (heldIn es count) ⌝ }
+{
+    let n = basics::least(count, MOST_ENTRIES);
+    let mut left = desired;
+    let mut i: usize = 0;
+    while i < n {
+        let e = es[i];
+        left = less(left, takes(e));
+        i += 1;
+    }
+    left
 }

@@ -5,8 +5,8 @@ use mathlib.Core.List.{List}
 use Prim.Native.Nat.{ℕ, zero, suc, _+_, _-_, _%_, _^_, min}
 use lib.Dec.{eqb}
 use Rattle.basics.specs.Basics.{if_then_else_, Outcome, done, refused}
-use Rattle.bearer.specs.Bearer.{After, mostEntries}
-use Rattle.bearer.specs.Ledger.{Ledger, Accepted, openLedger, send, accept}
+use Rattle.bearer.specs.Bearer.{After, answering, mostEntries}
+use Rattle.bearer.specs.Ledger.{Ledger, Accepted, changed, openLedger, send, accept, room}
 use Rattle.ledger.specs.View.{opens}
 
 -- ---- turns
@@ -36,9 +36,9 @@ total value turn l i (suc n) = worth value (turn i l .answer) + total value turn
 abbrev pub opened : ℕ → Ledger Unit
 opened L = opens (openLedger L 0 0) .state
 
--- turn i sends PDCP number i
+-- turn i sends 1,500 octets with PDCP number i
 abbrev pub sendNext : Turn ℕ
-sendNext i l = send l i tt
+sendNext i l = send l i 1500 tt
 
 -- a ledger with so many packets sent, 512 at most
 abbrev pub filled : ℕ → ℕ → Ledger Unit
@@ -48,7 +48,7 @@ filled L entries = left sendNext (opened L) 0 (min entries mostEntries)
 abbrev pub sendRound : ℕ → ℕ → Ledger Unit → Turn ℕ
 sendRound p round start i l = sendNext (p + i % round) (if eqb (i % round) 0 then start else l)
 
--- a number given out is worth itself
+-- a number that is answered is worth itself
 abbrev pub number : ℕ → ℕ
 number n = n
 
@@ -56,7 +56,7 @@ number n = n
 abbrev pub rounds : ℕ → ℕ → Ledger Unit → ℕ → ℕ
 rounds p round start turns = total number (sendRound p round start) start 0 turns % 2 ^ 32
 
--- so many packets sent, each to a ledger that has room
+-- so many packets sent, each to a ledger that is not full
 abbrev pub sends : ℕ → ℕ → ℕ
 sends L turns = rounds 0 mostEntries (opened L) turns
 
@@ -76,3 +76,15 @@ accepts L entries turns octets =
 -- so many packets sent behind the entries that octets leave to a filled ledger, 16 a round
 abbrev pub sendsBehind : ℕ → ℕ → ℕ → List ℕ → ℕ
 sendsBehind L entries turns octets = rounds (min entries mostEntries) 16 (accept (filled L entries) octets .state) turns
+
+-- a ledger with another desired size
+abbrev pub desiring : Ledger Unit → ℕ → Ledger Unit
+desiring l d = changed l (l .next) (l .highest) (l .sent) (l .closed) d (l .minimum) (l .oldest) (l .entries)
+
+-- each turn asks for room, and leaves a desired size that is greater by 1
+abbrev pub askRoom : Turn ℕ
+askRoom i l = answering (room l) (desiring l ((l .desired + 1) % 2 ^ 32))
+
+-- so many times asked for room, first of what octets leave to a filled ledger
+abbrev pub rooms : ℕ → ℕ → ℕ → List ℕ → ℕ
+rooms L entries turns octets = total number askRoom (accept (filled L entries) octets .state) 0 turns % 2 ^ 32

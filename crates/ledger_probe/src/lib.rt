@@ -5,7 +5,7 @@ ghost use mathlib.Core.Path.{_≡_};
 ghost use Prim.Native.Nat.{_+_, _%_, _^_, _<_, min};
 ghost use Rattle.bearer.specs.Bearer.{mostEntries};
 ghost use Rattle.ledger.specs.View.{ledgerIn, sentAs, acceptedAs};
-ghost use Rattle.ledger_probe.specs.Rig.{worth, left, total, number, counts, filled as «filledOf», rounds, sends, acceptAgain, sendsBehind, accepts};
+ghost use Rattle.ledger_probe.specs.Rig.{worth, left, total, number, counts, filled as «filledOf», rounds, sends, acceptAgain, sendsBehind, accepts, askRoom, rooms};
 use ledger::Accepted;
 use ledger::Ledger;
 use ledger::Sent;
@@ -17,17 +17,20 @@ struct Told {
 }
 
 // How many packets fill a ledger.
-const ROOM: u32 = ledger_entries::MOST_ENTRIES as u32;
+const FULL: u32 = ledger_entries::MOST_ENTRIES as u32;
 
 // How many packets are sent behind the entries that a ledger has.
 const ROUND: u32 = 16;
 
-// Sends so many packets, each into a ledger that has room: an empty one takes the place of a full one.
+// How many octets each packet has.
+const OCTETS: u32 = 1500;
+
+// Sends so many packets, each into a ledger that is not full: an empty one takes the place of a full one.
 #[no_mangle]
 pub extern "C" fn probe_ledger_send(bits: u32, turns: u32) -> u32
     ensures { λ r. ⌜ r ≡ sends bits turns ⌝ }
 {
-    send_rounds(filled(bits, 0), 0, ROOM, turns)
+    send_rounds(filled(bits, 0), 0, FULL, turns)
 }
 
 // Sends so many packets, 512 at most, accepts a frame, and then sends so many behind the entries that are left, 16 at a time: the
@@ -51,7 +54,18 @@ pub extern "C" fn probe_ledger_accept(bits: u32, entries: u32, turns: u32, frame
     std::num::wrapping_add_u32(t.sum, t.ledger.next)
 }
 
-// A filled ledger after a frame was accepted so many times, and what was answered together. Both who want such a ledger call this,
+// Sends so many packets, 512 at most, accepts a frame, and then asks so many times for room. Each turn leaves a desired size that is
+// greater by 1, so that no turn asks what another asked: the compiler then walks the entries in each, and only with no entry adds up
+// without a loop (seen in the code for x86-64).
+#[no_mangle]
+pub extern "C" fn probe_ledger_room(bits: u32, entries: u32, turns: u32, frame: &[u8]) -> u32
+    ensures { λ r. ⌜ r ≡ rooms bits entries turns (now (frame .entry)) ⌝ }
+{
+    let t = accept_turns(bits, entries, 1, frame);
+    room_turns(t.ledger, turns)
+}
+
+// A filled ledger after a frame was accepted so many times, and what was answered together. All who want such a ledger call this,
 // and none calls `accept` besides: with two places that call it the compiler takes it into neither, and a frame takes 2 µs in place
 // of 0.3 (measured on x86-64).
 fn accept_turns(bits: u32, entries: u32, turns: u32, frame: &[u8]) -> Told
@@ -87,10 +101,25 @@ fn send_rounds(start: Ledger, pdcp: u32, round: u32, turns: u32) -> u32
         if at == 0 {
             l = start;
         }
-        let s = ledger::send(l, pdcp + at);
+        let s = ledger::send(l, pdcp + at, OCTETS);
         l = s.ledger;
         let answer = s.answer;
         sum = add_sent(sum, answer);
+        i += 1;
+    }
+    sum
+}
+
+// Asks so many times for room, each time with a greater desired size.
+fn room_turns(start: Ledger, turns: u32) -> u32
+    ensures { λ r. ⌜ r ≡ total number askRoom (ledgerIn start) 0 turns % 2 ^ 32 ⌝ }
+{
+    let mut l = start;
+    let mut sum: u32 = 0;
+    let mut i: u32 = 0;
+    while i < turns {
+        sum = std::num::wrapping_add_u32(sum, ledger::room(l));
+        l.desired = std::num::wrapping_add_u32(l.desired, 1);
         i += 1;
     }
     sum
@@ -100,7 +129,7 @@ fn send_rounds(start: Ledger, pdcp: u32, round: u32, turns: u32) -> u32
 fn at_most(entries: u32) -> u32
     ensures { λ r. ⌜ r ≡ min entries mostEntries ⌝ }
 {
-    if entries < ROOM { entries } else { ROOM }
+    if entries < FULL { entries } else { FULL }
 }
 
 // A ledger with so many packets sent, 512 at most, from number 0 and PDCP number 0 on. The compiler takes it into the loop of
@@ -113,7 +142,7 @@ fn filled(bits: u32, entries: u32) -> Ledger
     let mut l = o.ledger;
     let mut i: u32 = 0;
     while i < n {
-        let s = ledger::send(l, i);
+        let s = ledger::send(l, i, OCTETS);
         l = s.ledger;
         i += 1;
     }

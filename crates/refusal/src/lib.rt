@@ -56,3 +56,5 @@ pub const PDCP_ORDER: u32 = 35; // the PDCP number is H, or with entries waiting
 pub const ENTRIES: u32 = 36; // 512 entries are held
 
 pub const NOTHING: u32 = 38; // nothing to take
+
+pub const SIZE: u32 = 39; // a PDU's size is outside 1 to 16,384 octets

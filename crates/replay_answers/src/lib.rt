@@ -23,7 +23,8 @@ pub enum Answer {
     Lost(u32),
     Sent(u32),
     Freed { freed: u32, lost: u32, last: bool },
-    Taken { number: u32, pdcp: u32 },
+    Taken { number: u32, pdcp: u32, size: u32 },
+    Room(u32),
     Refused(u32),
 }
 
@@ -39,11 +40,12 @@ fn put_freed(freed: u32, lost: u32, last: bool, out: &mut [u8], at: usize) -> us
 }
 
 // A packet that was taken.
-fn put_taken(number: u32, pdcp: u32, out: &mut [u8], at: usize) -> usize
-    ensures { λ r. ⌜ Puts (now (out .entry)) at (parted tab (answerFields (Answer.Taken number pdcp))) r (now (out .exit)) 27 ⌝ }
+fn put_taken(number: u32, pdcp: u32, size: u32, out: &mut [u8], at: usize) -> usize
+    ensures { λ r. ⌜ Puts (now (out .entry)) at (parted tab (answerFields (Answer.Taken number pdcp size))) r (now (out .exit)) 38 ⌝ }
 {
     let at = replay_parts::put_named(b"taken", number, out, at);
-    replay_parts::put_behind(TAB, pdcp, out, at)
+    let at = replay_parts::put_behind(TAB, pdcp, out, at);
+    replay_parts::put_behind(TAB, size, out, at)
 }
 
 // The fields of an answer.
@@ -57,7 +59,8 @@ fn put_answer(answer: Answer, out: &mut [u8], at: usize) -> usize
         Answer::Lost(n) => replay_parts::put_named(b"lost", n, out, at),
         Answer::Sent(n) => replay_parts::put_named(b"sent", n, out, at),
         Answer::Freed { freed, lost, last } => put_freed(freed, lost, last, out, at),
-        Answer::Taken { number, pdcp } => put_taken(number, pdcp, out, at),
+        Answer::Taken { number, pdcp, size } => put_taken(number, pdcp, size, out, at),
+        Answer::Room(n) => replay_parts::put_named(b"room", n, out, at),
         Answer::Refused(n) => replay_parts::put_named(b"refused", n, out, at),
     }
 }

@@ -98,14 +98,15 @@ callWith w none = Unreadable
 callWith w (some []) =
     if same w (ascii "expire") then Keeper K.the-variants.Expire else
     if same w (ascii "take") then Ledger L.the-variants.Take else
+    if same w (ascii "room") then Ledger L.the-variants.Room else
     if same w (ascii "keeper") then Keeper K.the-variants.Show else
     if same w (ascii "ledger") then Ledger L.the-variants.Show else
     Unreadable
-callWith w (some (a ∷ [])) =
-    if same w (ascii "confirm") then Keeper (K.the-variants.Confirm a) else
-    if same w (ascii "send") then Ledger (L.the-variants.Send a) else
+callWith w (some (a ∷ [])) = if same w (ascii "confirm") then Keeper (K.the-variants.Confirm a) else Unreadable
+callWith w (some (a ∷ b ∷ [])) =
+    if same w (ascii "arrive") then Keeper (K.the-variants.Arrive a b) else
+    if same w (ascii "send") then Ledger (L.the-variants.Send a b) else
     Unreadable
-callWith w (some (a ∷ b ∷ [])) = if same w (ascii "arrive") then Keeper (K.the-variants.Arrive a b) else Unreadable
 callWith w (some (a ∷ b ∷ c ∷ [])) = if same w (ascii "open") then Open (record { bits = a; first = b; pdcp = c }) else Unreadable
 callWith w (some (a ∷ b ∷ c ∷ d ∷ [])) = if same w (ascii "status") then statusOf a b c d else Unreadable
 callWith w (some (a ∷ b ∷ c ∷ d ∷ e ∷ ns)) = Unreadable

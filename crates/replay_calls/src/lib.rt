@@ -44,9 +44,10 @@ pub enum KeeperCall {
 
 // A call on the master. The octets of the frame to accept stand in a buffer beside it.
 pub enum LedgerCall {
-    Send(u32),
+    Send { pdcp: u32, size: u32 },
     Accept(usize),
     Take,
+    Room,
     Show,
 }
 
@@ -178,6 +179,9 @@ fn bare_call(word: &[u8]) -> Call
     if same(word, b"take") {
         return Call::Ledger(LedgerCall::Take);
     }
+    if same(word, b"room") {
+        return Call::Ledger(LedgerCall::Room);
+    }
     if same(word, b"keeper") {
         return Call::Keeper(KeeperCall::Show);
     }
@@ -194,9 +198,6 @@ fn call_of_one(word: &[u8], a: u32) -> Call
     if same(word, b"confirm") {
         return Call::Keeper(KeeperCall::Confirm(a));
     }
-    if same(word, b"send") {
-        return Call::Ledger(LedgerCall::Send(a));
-    }
     Call::Unreadable
 }
 
@@ -206,6 +207,9 @@ fn call_of_two(word: &[u8], a: u32, b: u32) -> Call
 {
     if same(word, b"arrive") {
         return Call::Keeper(KeeperCall::Arrive { number: a, pdcp: b });
+    }
+    if same(word, b"send") {
+        return Call::Ledger(LedgerCall::Send { pdcp: a, size: b });
     }
     Call::Unreadable
 }

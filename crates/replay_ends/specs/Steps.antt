@@ -36,9 +36,9 @@ okAnswer a = A.the-variants.Ok
 abbrev pub freedAnswer : master.Accepted → Answer
 freedAnswer a = A.the-variants.Freed (a .freed) (a .lost) (a .final)
 
--- both numbers of a packet
+-- both numbers of a packet, and its size
 abbrev pub takenAnswer : master.Taken → Answer
-takenAnswer t = A.the-variants.Taken (t .number) (t .pdcp)
+takenAnswer t = A.the-variants.Taken (t .number) (t .pdcp) (t .size)
 
 -- ---- steps
 
@@ -75,7 +75,8 @@ playKeeper k K.the-variants.Show = shown k (keeperFields k)
 
 -- each call on the master by its machine; an accept takes so many octets at the front of a frame's buffer
 abbrev pub playLedger : master.Ledger Unit → L.LedgerCall → List ℕ → Step (master.Ledger Unit)
-playLedger l (L.the-variants.Send pdcp) frame = following A.the-variants.Sent (master.send l pdcp tt)
+playLedger l (L.the-variants.Send pdcp size) frame = following A.the-variants.Sent (master.send l pdcp size tt)
 playLedger l (L.the-variants.Accept count) frame = following freedAnswer (master.accept l (take count frame))
 playLedger l L.the-variants.Take frame = following takenAnswer (master.takeOldest l)
+playLedger l L.the-variants.Room frame = answered l (A.the-variants.Room (master.room l))
 playLedger l L.the-variants.Show frame = shown l (ledgerFields l)

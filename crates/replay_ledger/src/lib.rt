@@ -58,9 +58,10 @@ fn taken(answer: Taken) -> Line
     ensures { λ r. ⌜ ((l : «Master» Unit) → leaving r l ≡ following takenAnswer (beside (takenAs answer) l)) ⌝ }
 {
     match answer {
-        Taken::Packet { number, pdcp } => Line::Answer(Answer::Taken {
+        Taken::Packet { number, pdcp, size } => Line::Answer(Answer::Taken {
             number: number,
             pdcp: pdcp,
+            size: size,
         }),
         Taken::Refused(n) => Line::Answer(Answer::Refused(n)),
     }
@@ -68,13 +69,23 @@ fn taken(answer: Taken) -> Line
 
 // ---- calls
 
+// The end as it was, and what is left to print of it.
+fn unchanged(line: Line, l: Ledger) -> Stepped
+    ensures { λ r. ⌜ leaving (r .line) (ledgerIn (r .ledger)) ≡ leaving line (ledgerIn l) ⌝ }
+{
+    Stepped {
+        line: line,
+        ledger: l,
+    }
+}
+
 // A call, and what is left to print of it.
 fn step(call: LedgerCall, frame: &[u8], l: Ledger) -> Stepped
     ensures { λ r. ⌜ leaving (r .line) (ledgerIn (r .ledger)) ≡ playLedger (ledgerIn l) call (now (frame .entry)) ⌝ }
 {
     match call {
-        LedgerCall::Send(pdcp) => {
-            let s = ledger::send(l, pdcp);
+        LedgerCall::Send { pdcp, size } => {
+            let s = ledger::send(l, pdcp, size);
             let answer = s.answer;
             let after = s.ledger;
             Stepped {
@@ -100,10 +111,8 @@ fn step(call: LedgerCall, frame: &[u8], l: Ledger) -> Stepped
                 ledger: after,
             }
         }
-        LedgerCall::Show => Stepped {
-            line: Line::Shown,
-            ledger: l,
-        },
+        LedgerCall::Room => unchanged(Line::Answer(Answer::Room(ledger::room(l))), l),
+        LedgerCall::Show => unchanged(Line::Shown, l),
     }
 }
 

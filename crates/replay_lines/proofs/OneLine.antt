@@ -35,9 +35,10 @@ keeper-call k (K.the-variants.Status s) = reported-line (secondary.status k (s .
 keeper-call k K.the-variants.Show = keeper-line k
 
 ledger-call : (l : master.Ledger Unit) (c : L.LedgerCall) (frame : List ℕ) → IsLine (playLedger l c frame .line)
-ledger-call l (L.the-variants.Send pdcp) frame = answer-line (answerBy A.the-variants.Sent (master.send l pdcp tt .answer))
+ledger-call l (L.the-variants.Send pdcp size) frame = answer-line (answerBy A.the-variants.Sent (master.send l pdcp size tt .answer))
 ledger-call l (L.the-variants.Accept count) frame = answer-line (answerBy freedAnswer (master.accept l (take count frame) .answer))
 ledger-call l L.the-variants.Take frame = answer-line (answerBy takenAnswer (master.takeOldest l .answer))
+ledger-call l L.the-variants.Room frame = answer-line (A.the-variants.Room (master.room l))
 ledger-call l L.the-variants.Show frame = ledger-line l
 
 open-call : (e : Ends) (k : Outcome secondary.Keeper) (l : Outcome (master.Ledger Unit)) → IsLine (opening e k l .line)

@@ -39,9 +39,14 @@ fate-kind : (f : master.Fate) → eqb (fateKind f) lineFeed ≡ false
 fate-kind master.waiting = refl
 fate-kind master.lost = refl
 
+entry-plain : (e : master.Entry Unit) → unended (entryText e) ≡ true
+entry-plain e =
+    unended-append (packetText (e .number) (e .pdcp) (fateKind (e .fate))) (colon ∷ decimal (e .size)) (packet-plain (e .number) (e .pdcp) (fateKind (e .fate)) (fate-kind (e .fate)))
+    (unended-cons colon (decimal (e .size)) refl (unended-decimal (e .size)))
+
 entries-plain : (es : List (master.Entry Unit)) → all unended (map entryText es) ≡ true
 entries-plain [] = refl
-entries-plain (e ∷ es) = rw (packet-plain (e .number) (e .pdcp) (fateKind (e .fate)) (fate-kind (e .fate))) (entries-plain es)
+entries-plain (e ∷ es) = rw (entry-plain e) (entries-plain es)
 
 -- ---- both ends
 

@@ -9,7 +9,7 @@ use Rattle.bearer.specs.Keeper.{Keeper, Record}
 use Rattle.bearer.specs.Ledger as master
 use Rattle.lister_text.specs.Texts.{ascii, decimal, joined, rangesText}
 
--- parts a packet's numbers and its kind
+-- parts a packet's numbers, its kind and its size
 abbrev pub colon : ℕ
 colon = code ":"
 
@@ -30,9 +30,9 @@ abbrev pub fateKind : master.Fate → ℕ
 fateKind master.waiting = code "w"
 fateKind master.lost = code "l"
 
--- an entry as number:pdcp:w or number:pdcp:l
+-- an entry as number:pdcp:w:size or number:pdcp:l:size
 abbrev pub entryText : master.Entry Unit → List ℕ
-entryText e = packetText (e .number) (e .pdcp) (fateKind (e .fate))
+entryText e = packetText (e .number) (e .pdcp) (fateKind (e .fate)) ++ (colon ∷ decimal (e .size))
 
 -- base, reported highest, closed as 0 or 1, listed runs as start-end, records
 abbrev pub keeperFields : Keeper → List (List ℕ)

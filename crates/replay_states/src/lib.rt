@@ -113,18 +113,19 @@ fn kind_of_fate(fate: Fate) -> u8
     }
 }
 
-// An entry, with a mark before it.
+// An entry, with a mark before it: the packet, and its size.
 fn put_entry(mark: u8, e: Entry, out: &mut [u8], at: usize) -> usize
-    ensures { λ r. ⌜ Puts (now (out .entry)) at (mark ∷ entryText (entryIn e)) r (now (out .exit)) 24 ⌝ }
+    ensures { λ r. ⌜ Puts (now (out .entry)) at (mark ∷ entryText (entryIn e)) r (now (out .exit)) 35 ⌝ }
 {
     let fate = e.fate;
-    put_packet(mark, e.number, e.pdcp, kind_of_fate(fate), out, at)
+    let at = put_packet(mark, e.number, e.pdcp, kind_of_fate(fate), out, at);
+    replay_parts::put_behind(COLON, e.size as u32, out, at)
 }
 
 // The field of the entries, with a tab before it.
 fn put_entries(entries: [Entry; MOST_ENTRIES], n: usize, out: &mut [u8], at: usize) -> usize
     requires { ⌜ n ≤ mostEntries ⌝ }
-    ensures { λ r. ⌜ Puts (now (out .entry)) at (tab ∷ joined (map entryText (entriesIn entries n))) r (now (out .exit)) (5 + n * 24) ⌝ }
+    ensures { λ r. ⌜ Puts (now (out .entry)) at (tab ∷ joined (map entryText (entriesIn entries n))) r (now (out .exit)) (5 + n * 35) ⌝ }
 {
     if n == 0 {
         return lister_text::lay_text(b"\tnone", out, at);

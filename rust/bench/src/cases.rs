@@ -1,6 +1,6 @@
 //! The cases.
 
-use crate::{Clock, Form, List, Measured, REPORT, Range, Report, Side};
+use crate::{Clock, Form, List, Measured, PDU, REPORT, Range, Report, Side};
 use std::hint::black_box;
 use std::time::Duration;
 use x2u::frame;
@@ -349,60 +349,54 @@ fn statuses<S: Side>(add: &mut impl FnMut(&str, &str, Option<f64>, Run)) {
     );
 }
 
-/// Sends into a ledger, and a hostile frame against what the ledger holds and
-/// against its own length.
+/// What a status says to a ledger on which nothing was freed.
+const NOTHING_FREED: Report = Report {
+    highest: 262_143,
+    ..REPORT
+};
+
+/// The ledger's calls: sends, the room, a status, and hostile frames.
 fn ledger<S: Side>(cases: &mut Vec<Case>) {
-    for turns in [64, 512] {
+    let mut add = |id: String, title: String, run| {
         cases.push(Case {
-            id: format!("send-{turns}"),
-            title: format!("send; 0 to {} entries, with the opening", turns - 1),
+            id,
+            title,
             table: "ledger",
             goal: None,
-            run: sends::<S>(turns),
+            run,
         });
-    }
-    let report = Report {
-        highest: 262_143,
-        ..REPORT
     };
+    for turns in [64, 512] {
+        let title = format!("send; 0 to {} entries, with the opening", turns - 1);
+        add(format!("send-{turns}"), title, sends::<S>(turns));
+    }
     // The frame has all lost, so what is sent then stands behind them.
     for entries in [16, 496] {
-        let all = [Range {
-            start: 0,
-            end: entries - 1,
-        }];
-        let octets = status_frame(Form::Long, &report, &all);
-        let first: u32 = (entries..entries + 16).sum();
-        assert_eq!(S::sends_behind(18, entries, 16, &octets), first);
-        cases.push(Case {
-            id: format!("behind-{entries}"),
-            title: format!("send behind {entries} lost entries that nobody took"),
-            table: "ledger",
-            goal: None,
-            run: once_filled(move |turns| S::sends_behind(18, entries, turns, &octets)),
-        });
+        let title = format!("send behind {entries} lost entries that nobody took");
+        add(format!("behind-{entries}"), title, behind::<S>(entries));
     }
-    let octets = status_frame(Form::Long, &report, &[]);
-    cases.push(Case {
-        id: "accept-nothing".to_owned(),
-        title: "accept of a status that says nothing; 512 entries".to_owned(),
-        table: "ledger",
-        goal: None,
-        run: hostile::<S>(512, octets),
-    });
-    let whole = [Range {
+    for entries in [64, 512] {
+        let title = format!("room; {entries} entries that wait");
+        add(format!("room-{entries}"), title, rooms::<S>(entries));
+    }
+    add(
+        "accept-nothing".to_owned(),
+        "accept of a status that says nothing; 512 entries".to_owned(),
+        hostile::<S>(512, ledger_frame(&[])),
+    );
+    hostiles::<S>(&mut add);
+}
+
+/// A hostile frame against what the ledger holds and against its own length.
+fn hostiles<S: Side>(add: &mut impl FnMut(String, String, Run)) {
+    let octets = ledger_frame(&[Range {
         start: 0,
         end: 16_777_215,
-    }];
-    let octets = status_frame(Form::Long, &report, &whole);
+    }]);
     for entries in [1, 64, 128, 256, 512] {
-        cases.push(Case {
-            id: format!("hostile-{entries}"),
-            title: format!("one range, 0 to 16,777,215; {entries} entries"),
-            table: "ledger",
-            goal: None,
-            run: hostile::<S>(entries, octets.clone()),
-        });
+        let title = format!("one range, 0 to 16,777,215; {entries} entries");
+        let run = hostile::<S>(entries, octets.clone());
+        add(format!("hostile-{entries}"), title, run);
     }
     // All but the last name waiting entries.
     for count in [1, 20, 40, 80, 162] {
@@ -411,18 +405,17 @@ fn ledger<S: Side>(cases: &mut Vec<Case>) {
             start: 600,
             end: 600,
         };
-        let octets = status_frame(Form::Long, &report, &ranges);
-        cases.push(Case {
-            id: format!("ranges-{count}"),
-            title: format!(
-                "{} octets, {count} ranges, the last not waiting; 512 entries",
-                octets.len()
-            ),
-            table: "ledger",
-            goal: None,
-            run: hostile::<S>(512, octets),
-        });
+        let octets = ledger_frame(&ranges);
+        let title = format!(
+            "{} octets, {count} ranges, the last not waiting; 512 entries",
+            octets.len()
+        );
+        add(format!("ranges-{count}"), title, hostile::<S>(512, octets));
     }
+}
+
+fn ledger_frame(ranges: &[Range]) -> Vec<u8> {
+    status_frame(Form::Long, &NOTHING_FREED, ranges)
 }
 
 /// So many sends into a ledger that is opened for each batch, within it.
@@ -437,6 +430,25 @@ fn sends<S: Side>(turns: u32) -> Run {
         }
         measured
     })
+}
+
+/// Sends behind so many lost entries.
+fn behind<S: Side>(entries: u32) -> Run {
+    let octets = ledger_frame(&[Range {
+        start: 0,
+        end: entries - 1,
+    }]);
+    let first: u32 = (entries..entries + 16).sum();
+    assert_eq!(S::sends_behind(18, entries, 16, &octets), first);
+    once_filled(move |turns| S::sends_behind(18, entries, turns, &octets))
+}
+
+/// The room over so many entries that wait.
+fn rooms<S: Side>(entries: u32) -> Run {
+    let octets = ledger_frame(&[]);
+    let room = NOTHING_FREED.desired - entries * PDU;
+    assert_eq!(S::rooms(18, entries, 3, &octets), 3 * room + 3);
+    once_filled(move |turns| S::rooms(18, entries, turns, &octets))
 }
 
 /// Frames refused by a ledger that was filled before.

@@ -58,7 +58,14 @@ pub trait Side: 'static {
     /// gives it the frame once, and sends so many packets behind what is left, 16
     /// into each copy of that ledger. The answer is the sum of their numbers.
     fn sends_behind(pdcp_bits: u32, entries: u32, turns: u32, octets: &[u8]) -> u32;
+    /// Opens a master at number 0 and PDCP number 0, sends `entries` packets,
+    /// gives it the frame once, and asks for the room so many times, one octet
+    /// more being desired each time. The answer is the sum of the rooms.
+    fn rooms(pdcp_bits: u32, entries: u32, turns: u32, octets: &[u8]) -> u32;
 }
+
+/// The size of each PDU sent, in octets.
+pub const PDU: u32 = 1_500;
 
 /// Ranges, as either side takes them.
 pub struct List {

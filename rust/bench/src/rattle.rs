@@ -105,6 +105,11 @@ impl Side for Rattle {
     fn sends_behind(pdcp_bits: u32, entries: u32, turns: u32, octets: &[u8]) -> u32 {
         boundary::ledger_sends_behind(pdcp_bits, entries, turns, octets)
     }
+
+    #[inline(never)]
+    fn rooms(pdcp_bits: u32, entries: u32, turns: u32, octets: &[u8]) -> u32 {
+        boundary::ledger_rooms(pdcp_bits, entries, turns, octets)
+    }
 }
 
 /// The sum over all ranges, taken one after another.

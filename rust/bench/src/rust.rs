@@ -1,7 +1,8 @@
 //! The library here, as a [`Side`]. Nothing is inlined into a benchmark, since
 //! nothing could be across a C boundary.
 
-use crate::{Form, List, REPORT, Range, Report, Side};
+use crate::{Form, List, PDU, REPORT, Range, Report, Side};
+use std::hint::black_box;
 use x2u::frame::{self, Frame, Ranges};
 use x2u::{Answer, Keeper, Ledger};
 
@@ -36,6 +37,15 @@ fn sum(octets: &[u8], next: impl Fn(&mut Ranges<'_>) -> Option<Range>) -> i64 {
         }
         Frame::Refused(refusal) => -i64::from(refusal.number()),
     }
+}
+
+/// A ledger into which so many packets were sent.
+fn filled(pdcp_bits: u32, entries: u32) -> Ledger {
+    let mut ledger = Ledger::open(pdcp_bits, 0, 0).expect("benchmarks open well");
+    for pdcp in 0..entries {
+        ledger.send(pdcp, PDU).expect("benchmarks send in order");
+    }
+    ledger
 }
 
 #[inline(never)]
@@ -101,17 +111,15 @@ impl Side for Rust {
             if at == 0 {
                 ledger = open();
             }
-            sum = sum.wrapping_add(ledger.send(at).expect("benchmarks send in order"));
+            let sent = ledger.send(at, PDU);
+            sum = sum.wrapping_add(sent.expect("benchmarks send in order"));
         }
         sum
     }
 
     #[inline(never)]
     fn accepts(pdcp_bits: u32, entries: u32, turns: u32, octets: &[u8]) -> u32 {
-        let mut ledger = Ledger::open(pdcp_bits, 0, 0).expect("benchmarks open well");
-        for pdcp in 0..entries {
-            ledger.send(pdcp).expect("benchmarks send in order");
-        }
+        let mut ledger = filled(pdcp_bits, entries);
         let mut last = 0;
         for _ in 0..turns {
             last = match ledger.accept(octets) {
@@ -124,10 +132,7 @@ impl Side for Rust {
 
     #[inline(never)]
     fn sends_behind(pdcp_bits: u32, entries: u32, turns: u32, octets: &[u8]) -> u32 {
-        let mut start = Ledger::open(pdcp_bits, 0, 0).expect("benchmarks open well");
-        for pdcp in 0..entries {
-            start.send(pdcp).expect("benchmarks send in order");
-        }
+        let mut start = filled(pdcp_bits, entries);
         start.accept(octets).expect("the frame is accepted");
         let mut ledger = start.clone();
         let mut sum = 0_u32;
@@ -136,8 +141,22 @@ impl Side for Rust {
             if at == 0 {
                 ledger.clone_from(&start);
             }
-            let sent = ledger.send(entries + at);
+            let sent = ledger.send(entries + at, PDU);
             sum = sum.wrapping_add(sent.expect("benchmarks send in order"));
+        }
+        sum
+    }
+
+    /// Only a status changes the desired size, so what is desired more is added
+    /// to the room, which is the same where there is room at all.
+    #[inline(never)]
+    fn rooms(pdcp_bits: u32, entries: u32, turns: u32, octets: &[u8]) -> u32 {
+        let mut ledger = filled(pdcp_bits, entries);
+        ledger.accept(octets).expect("the frame is accepted");
+        let mut sum = 0_u32;
+        for turn in 0..turns {
+            let room = black_box(&ledger).room();
+            sum = sum.wrapping_add(room.wrapping_add(turn));
         }
         sum
     }

@@ -18,4 +18,4 @@ pub use calls::{Keeper, Room, first_range, next_range, read, read_all, write_dat
 #[cfg(feature = "product")]
 pub use foreign::{CURSOR, Cursor, Fields, MOST_RECORDS, MOST_RUNS, OPEN, Range, Words};
 #[cfg(feature = "probe")]
-pub use probe::{ledger_accepts, ledger_sends, ledger_sends_behind};
+pub use probe::{ledger_accepts, ledger_rooms, ledger_sends, ledger_sends_behind};

@@ -10,6 +10,13 @@ unsafe extern "C" {
         frame: *const u8,
         frame_len: usize,
     ) -> u32;
+    fn probe_ledger_room(
+        length: u32,
+        entries: u32,
+        turns: u32,
+        frame: *const u8,
+        frame_len: usize,
+    ) -> u32;
     fn probe_ledger_send(length: u32, turns: u32) -> u32;
     fn probe_ledger_send_behind(
         length: u32,
@@ -26,6 +33,15 @@ unsafe extern "C" {
 pub fn ledger_accepts(length: u32, entries: u32, turns: u32, frame: &[u8]) -> u32 {
     // SAFETY: pointer and length are those of one slice.
     unsafe { probe_ledger_accept(length, entries, turns, frame.as_ptr(), frame.len()) }
+}
+
+/// Opens a ledger, sends `entries` packets, accepts `frame` once, and asks for
+/// the room so many times, with another desired size each time.
+#[inline]
+#[must_use]
+pub fn ledger_rooms(length: u32, entries: u32, turns: u32, frame: &[u8]) -> u32 {
+    // SAFETY: pointer and length are those of one slice.
+    unsafe { probe_ledger_room(length, entries, turns, frame.as_ptr(), frame.len()) }
 }
 
 /// Opens a ledger and sends so many packets.

@@ -28,13 +28,17 @@
 //! number is H, and measured from the oldest's they strictly rise, below half
 //! the circle. So no two are the same.
 //!
+//! And the room of request Four: each packet keeps the size it was sent with, at
+//! the master and where it is taken, and the room is the desired size of the
+//! frame accepted last less the sizes of all packets that wait, never below 0.
+//!
 //! "Declared lost" follows document 01's sentences on packet indexes; nothing
 //! here knows how the library keeps its state.
 
 use crate::Opening;
 use std::collections::VecDeque;
 use x2u::Refusal;
-use x2u::frame::Range;
+use x2u::frame::{Range, Report};
 use x2u::ledger::{Entry, Fate as Held, Settled};
 
 /// What is wrong, in words.
@@ -55,6 +59,7 @@ const NEVER: u32 = u32::MAX;
 #[derive(Clone, Copy, Debug)]
 struct Packet {
     pdcp: u32,
+    size: u16,
     fate: Fate,
     /// The first frame k with this packet in C(k) or in R(k).
     frame: u32,
@@ -78,6 +83,21 @@ pub struct Tally {
     pub built: u32,
     /// Frames accepted.
     pub accepted: u32,
+    /// Octets of packets.
+    pub octets: Octets,
+}
+
+/// The octets of all packets that met this or that.
+#[derive(Clone, Copy, Debug, Default, PartialEq, Eq)]
+pub struct Octets {
+    /// Of those sent.
+    pub sent: u64,
+    /// Of those declared lost.
+    pub lost: u64,
+    /// Of those freed by the master.
+    pub freed: u64,
+    /// Of those taken from the master.
+    pub taken: u64,
 }
 
 /// The watch over one bearer.
@@ -93,8 +113,10 @@ pub struct Watch {
     settled: usize,
     /// H, the highest of the frame accepted last.
     highest: u32,
-    /// The highest of each frame built that wasn't accepted yet.
-    highests: VecDeque<u32>,
+    /// Its desired size, 0 before any.
+    desired: u32,
+    /// What each frame built says that wasn't accepted yet.
+    reports: VecDeque<Report>,
     /// Nothing before this packet is held by the master; only saves time.
     held_from: usize,
     /// Nothing before this packet waits at the master; only saves time.
@@ -122,7 +144,8 @@ impl Watch {
             unreported: VecDeque::new(),
             settled: 0,
             highest: ((opening.first_pdcp + opening.pdcps() - 1) % opening.pdcps()) as u32,
-            highests: VecDeque::new(),
+            desired: 0,
+            reports: VecDeque::new(),
             held_from: 0,
             waiting_from: 0,
             tally: Tally::default(),
@@ -179,16 +202,26 @@ impl Watch {
         self.tally
     }
 
+    /// The size of a packet's PDU.
+    #[must_use]
+    pub fn size(&self, packet: usize) -> u32 {
+        self.packets[packet].size.into()
+    }
+
     /// A send was accepted.
-    pub fn sent(&mut self, pdcp: u32, number: u32) -> Verdict {
+    pub fn sent(&mut self, pdcp: u32, size: u32, number: u32) -> Verdict {
         let packet = self.packets.len();
         let expected = self.opening.number(packet);
         check!(
             number == expected,
             "packet {packet} went out as {number}, not {expected}"
         );
+        let allowed = (1..=16_384).contains(&size);
+        check!(allowed, "packet {packet} went out with {size} octets");
+        self.tally.octets.sent += u64::from(size);
         self.packets.push(Packet {
             pdcp,
+            size: size as u16,
             fate: Fate::Open,
             frame: NEVER,
             taken: false,
@@ -261,10 +294,10 @@ impl Watch {
         Ok(())
     }
 
-    /// A frame with this highest and these ranges was built.
-    pub fn built(&mut self, highest: u32, ranges: impl IntoIterator<Item = Range>) -> Verdict {
+    /// A frame that says this, with these ranges, was built.
+    pub fn built(&mut self, report: &Report, ranges: impl IntoIterator<Item = Range>) -> Verdict {
         self.tally.built += 1;
-        self.highests.push_back(highest);
+        self.reports.push_back(*report);
         for range in ranges {
             for number in self.expand(range) {
                 let lost = self.unreported.pop_front();
@@ -305,7 +338,10 @@ impl Watch {
         let settled =
             answer.map_err(|refusal| format!("frame {frame} was refused: {refusal:?}"))?;
         self.tally.accepted = frame;
-        self.highest = self.highests.pop_front().unwrap_or(self.highest);
+        if let Some(report) = self.reports.pop_front() {
+            self.highest = report.highest;
+            self.desired = report.desired;
+        }
         let freed = self.settle(frame);
         check!(
             freed == settled.freed,
@@ -340,19 +376,35 @@ impl Watch {
         self.in_order(waiting)
     }
 
-    /// Take was called, on a closed master or an open one; it answers a number
-    /// and a PDCP number.
-    pub fn taken(&mut self, closed: bool, answer: Result<(u32, u32), Refusal>) -> Verdict {
+    /// The master was asked for the room.
+    pub fn room(&mut self, answer: u32) -> Verdict {
+        let oldest = self.oldest_waiting();
+        let waiting = (oldest..self.packets.len()).filter(|&packet| self.waits(packet));
+        let octets: u64 = waiting.map(|packet| u64::from(self.size(packet))).sum();
+        let desired = u64::from(self.desired);
+        let expected = desired.saturating_sub(octets);
+        check!(
+            u64::from(answer) == expected,
+            "room is {answer}, not {expected}: {desired} are desired, {octets} wait"
+        );
+        Ok(())
+    }
+
+    /// Take was called, on a closed master or an open one; it answers a number,
+    /// a PDCP number and a size.
+    pub fn taken(&mut self, closed: bool, answer: Result<(u32, u32, u32), Refusal>) -> Verdict {
         let oldest = (self.held_from..self.packets.len())
             .filter(|&packet| !self.has_left(packet))
             .find(|&packet| closed || self.is_named(packet));
         let expected = oldest
-            .map(|packet| self.numbers(packet))
+            .map(|packet| self.entry(packet))
+            .map(|entry| (entry.number, entry.pdcp, entry.size.into()))
             .ok_or(Refusal::NothingToTake);
         check!(answer == expected, "take gave {answer:?}, not {expected:?}");
         if let Some(packet) = oldest {
             self.packets[packet].taken = true;
             self.tally.taken += 1;
+            self.tally.octets.taken += u64::from(self.size(packet));
         }
         Ok(())
     }
@@ -379,6 +431,7 @@ impl Watch {
         for packet in self.base..mark {
             if self.packets[packet].fate == Fate::Open {
                 self.packets[packet].fate = Fate::Lost;
+                self.tally.octets.lost += u64::from(self.size(packet));
                 self.unreported.push_back(packet);
                 lost += 1;
             }
@@ -415,7 +468,10 @@ impl Watch {
         while let Some(packet) = self.packets.get(self.settled)
             && packet.frame <= frame
         {
-            freed += u32::from(packet.fate == Fate::Received);
+            if packet.fate == Fate::Received {
+                self.tally.octets.freed += u64::from(packet.size);
+                freed += 1;
+            }
             self.settled += 1;
         }
         freed
@@ -455,6 +511,7 @@ impl Watch {
         Entry {
             number: self.opening.number(packet),
             pdcp: self.packets[packet].pdcp,
+            size: self.packets[packet].size,
             fate: if named { Held::Lost } else { Held::Waiting },
         }
     }

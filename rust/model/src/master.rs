@@ -22,6 +22,7 @@ pub enum Fate {
 #[derive(Clone, Copy, Debug)]
 struct Packet {
     pdcp: u64,
+    size: u32,
     fate: Fate,
 }
 
@@ -32,7 +33,8 @@ pub struct Master {
     packets: Vec<Packet>,
     highest: u64,
     last_sent: u64,
-    sizes: (u32, u32),
+    /// Desired and minimum size of the last accepted status, if one has come.
+    sizes: Option<(u32, u32)>,
     closed: bool,
 }
 
@@ -47,18 +49,22 @@ impl Master {
             packets: Vec::new(),
             highest: before_first,
             last_sent: before_first,
-            sizes: (0, 0),
+            sizes: None,
             closed: false,
         }
     }
 
-    /// Send of a PDCP number.
-    pub fn send(&mut self, pdcp: u32) -> Result<u32, Refusal> {
+    /// Send of a PDCP number, and of a PDU of so many octets.
+    pub fn send(&mut self, pdcp: u32, size: u32) -> Result<u32, Refusal> {
         if self.closed {
             return Err(Refusal::Closed);
         }
         if u64::from(pdcp) >= self.opening.pdcps() {
             return Err(Refusal::NumberTooLarge);
+        }
+        // "1 to 16,384 octets"
+        if !(1..=16_384).contains(&size) {
+            return Err(Refusal::SizeOutside);
         }
         let pdcp = self.in_order(pdcp).ok_or(Refusal::PdcpOrder)?;
         if self.held().len() >= 512 {
@@ -66,6 +72,7 @@ impl Master {
         }
         self.packets.push(Packet {
             pdcp,
+            size,
             fate: Fate::Waiting,
         });
         self.last_sent = pdcp;
@@ -97,19 +104,33 @@ impl Master {
         if let Some(last) = through.checked_sub(1) {
             self.highest = self.packets[last].pdcp;
         }
-        self.sizes = (report.desired, report.minimum);
+        self.sizes = Some((report.desired, report.minimum));
         self.closed = report.is_final;
         Ok((freed, named.len() as u32))
     }
 
-    /// Take: the packet's two numbers.
-    pub fn take(&mut self) -> Result<(u32, u32), Refusal> {
+    /// Take: the packet's two numbers, and its size.
+    pub fn take(&mut self) -> Result<(u32, u32, u32), Refusal> {
         let takes = |index: &usize| self.closed || self.packets[*index].fate == Fate::Lost;
         let index = self.held().into_iter().find(takes);
         let index = index.ok_or(Refusal::NothingToTake)?;
         self.packets[index].fate = Fate::Taken;
-        let (number, pdcp, _) = self.entry(index);
-        Ok((number, pdcp))
+        let (number, pdcp, size, _) = self.entry(index);
+        Ok((number, pdcp, size))
+    }
+
+    /// "Room is the desired size of the last accepted status less the sizes of
+    /// all waiting entries, and 0 where that would be negative or no status has
+    /// come."
+    #[must_use]
+    pub fn room(&self) -> u32 {
+        let Some((desired, _)) = self.sizes else {
+            return 0;
+        };
+        let sizes = self
+            .waiting()
+            .map(|index| i64::from(self.packets[index].size));
+        (i64::from(desired) - sizes.sum::<i64>()).max(0) as u32
     }
 
     /// The packets still held, in the order they were sent in.
@@ -119,13 +140,14 @@ impl Master {
         (0..self.packets.len()).filter(held).collect()
     }
 
-    /// Number, PDCP number and fate of a packet.
+    /// Number, PDCP number, size and fate of a packet.
     #[must_use]
-    pub fn entry(&self, index: usize) -> (u32, u32, Fate) {
+    pub fn entry(&self, index: usize) -> (u32, u32, u32, Fate) {
         let packet = self.packets[index];
         (
             self.opening.number(index),
             self.pdcp_number(packet.pdcp),
+            packet.size,
             packet.fate,
         )
     }
@@ -145,10 +167,10 @@ impl Master {
         self.closed
     }
 
-    /// Desired and minimum size.
+    /// Desired and minimum size, 0 before any status.
     #[must_use]
     pub fn sizes(&self) -> (u32, u32) {
-        self.sizes
+        self.sizes.unwrap_or_default()
     }
 
     /// How many packets met that fate.

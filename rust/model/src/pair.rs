@@ -48,17 +48,22 @@ impl Pair {
         self.frames.len()
     }
 
+    /// The frames on their way, the oldest first.
+    pub fn frames(&self) -> impl Iterator<Item = &[u8]> {
+        self.frames.iter().map(Vec::as_slice)
+    }
+
     /// The frame that will reach the master next.
     #[must_use]
     pub fn next_frame(&self) -> Option<&[u8]> {
-        self.frames.front().map(Vec::as_slice)
+        self.frames().next()
     }
 
-    /// Sends a packet.
-    pub fn send(&mut self, pdcp: u32) -> Watched<u32> {
-        let answer = self.ledger.send(pdcp);
+    /// Sends a packet whose PDU has `size` octets.
+    pub fn send(&mut self, pdcp: u32, size: u32) -> Watched<u32> {
+        let answer = self.ledger.send(pdcp, size);
         if let Ok(number) = answer {
-            self.watch.sent(pdcp, number)?;
+            self.watch.sent(pdcp, size, number)?;
         }
         Ok(answer)
     }
@@ -99,7 +104,7 @@ impl Pair {
                 let Frame::Status { report, ranges, .. } = frame::read(&buffer[..length]) else {
                     return Err(format!("{:?} is no status", &buffer[..length]));
                 };
-                self.watch.built(report.highest, ranges)?;
+                self.watch.built(&report, ranges)?;
                 self.watch.listed(self.keeper.listed_runs())?;
                 self.frames.push_back(buffer[..length].to_vec());
                 Ok(Ok(self.frames.back().map_or(&[], Vec::as_slice)))
@@ -119,9 +124,16 @@ impl Pair {
     pub fn take(&mut self) -> Watched<Entry> {
         let closed = self.ledger.is_closed();
         let answer = self.ledger.take();
-        let numbers = answer.map(|entry| (entry.number, entry.pdcp));
-        self.watch.taken(closed, numbers)?;
+        let taken = answer.map(|entry| (entry.number, entry.pdcp, entry.size.into()));
+        self.watch.taken(closed, taken)?;
         Ok(answer)
+    }
+
+    /// The master is asked for the room, which no end refuses.
+    pub fn room(&mut self) -> Result<u32, String> {
+        let room = self.ledger.room();
+        self.watch.room(room)?;
+        Ok(room)
     }
 
     /// Compares both ends with what the watch knows of them.

@@ -23,13 +23,15 @@ fn calls_before_an_open() {
         "expire",
         "confirm\t0",
         "status\t0\t0\t0\t0",
-        "send\t0",
+        "send\t0\t1",
+        "send\t0\t0",
         "accept\t",
         "take",
+        "room",
         "keeper",
         "ledger",
     ];
-    assert_eq!(replay(&lines), ["unopened"; 9]);
+    assert_eq!(replay(&lines), ["unopened"; 11]);
     assert_eq!(
         replay(&["open\t13\t0\t0", "take"]),
         ["refused\t7", "unopened"]
@@ -57,37 +59,51 @@ fn a_refused_open_leaves_what_was_there() {
     );
 }
 
+/// Lines that are no calls.
+const NO_CALLS: [&str; 37] = [
+    "",
+    " ",
+    "open",
+    "Open\t12\t0\t0",
+    "open\t12\t0",
+    "open\t12\t0\t0\t0",
+    "open\t12\t0\t0\t",
+    "open 12 0 0",
+    "open\t12\t0\t0\r",
+    "open\t\t0\t0",
+    "open\t12\t00000000000\t0",
+    "open\t12\t4294967296\t0",
+    "open\t12\t-1\t0",
+    "open\t12\t+1\t0",
+    "expire\t",
+    "take\t1",
+    "send",
+    "send\t0",
+    "send\t0\t",
+    "send\t\t1",
+    "send\t0\t1\t1",
+    "send\t0\t-1",
+    "send\t0\t4294967296",
+    "send\t0\t00000000001",
+    "room\t",
+    "room\t0",
+    "Room",
+    "rooms",
+    "status\t0\t0\t2\t0",
+    "status\t0\t0\t0\t2049",
+    "accept",
+    "accept\t0",
+    "accept\t0g",
+    "accept\t00\t",
+    "keeper\t",
+    "\tkeeper",
+    "ledger\0",
+];
+
 #[test]
 fn lines_that_are_no_calls() {
-    let longest = "0".repeat(2_038);
-    let lines = [
-        "",
-        " ",
-        "open",
-        "Open\t12\t0\t0",
-        "open\t12\t0",
-        "open\t12\t0\t0\t0",
-        "open\t12\t0\t0\t",
-        "open 12 0 0",
-        "open\t12\t0\t0\r",
-        "open\t\t0\t0",
-        "open\t12\t00000000000\t0",
-        "open\t12\t4294967296\t0",
-        "open\t12\t-1\t0",
-        "open\t12\t+1\t0",
-        "expire\t",
-        "take\t1",
-        "status\t0\t0\t2\t0",
-        "status\t0\t0\t0\t2049",
-        "accept",
-        "accept\t0",
-        "accept\t0g",
-        "accept\t00\t",
-        &format!("accept\t{longest}"),
-        "keeper\t",
-        "\tkeeper",
-        "ledger\0",
-    ];
+    let longest = format!("accept\t{}", "0".repeat(2_038));
+    let lines = [&NO_CALLS[..], &[longest.as_str()]].concat();
     assert_eq!(
         replay(&["open\t12\t0\t0", &lines.join("\n")])[1..],
         vec!["unreadable"; lines.len()]
@@ -106,6 +122,43 @@ fn numbers_at_their_limits() {
     ]);
     let frame = "frame\t120fffffffffffffffffff000000";
     assert_eq!(answers, ["ok", "refused\t7", frame, "refused\t1"]);
+}
+
+/// Calls and their answers: sizes go in and come out, and leave room.
+const SIZES: [(&str, &str); 18] = [
+    ("open\t12\t0\t0", "ok"),
+    ("room", "room\t0"),
+    ("send\t0\t0", "refused\t39"),
+    ("send\t0\t16385", "refused\t39"),
+    ("send\t0\t4294967295", "refused\t39"),
+    ("send\t0\t0000016384", "sent\t0"),
+    ("send\t1\t1", "sent\t1"),
+    ("send\t2\t40", "sent\t2"),
+    (
+        "accept\t100fff0000400200000001000000",
+        "freed\t0\tlost\t0\tfinal\t0",
+    ),
+    ("room", "room\t0"),
+    (
+        "accept\t110000000040020000000101000100010000",
+        "freed\t1\tlost\t1\tfinal\t0",
+    ),
+    ("ledger", "ledger\t3\t0\t2\t0\t16386\t1\t1:1:l:1,2:2:w:40"),
+    ("room", "room\t16346"),
+    ("take", "taken\t1\t1\t1"),
+    (
+        "accept\t120000fffffffffffffffe000000",
+        "freed\t0\tlost\t0\tfinal\t1",
+    ),
+    ("room", "room\t4294967255"),
+    ("take", "taken\t2\t2\t40"),
+    ("room", "room\t4294967295"),
+];
+
+#[test]
+fn sizes_leave_room() {
+    let answers = replay(&SIZES.map(|(call, _)| call));
+    assert_eq!(answers, SIZES.map(|(_, answer)| answer));
 }
 
 #[test]

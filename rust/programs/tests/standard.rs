@@ -56,8 +56,10 @@ fn conversation(program: &str, lines: &[&str]) -> Vec<String> {
 
 #[test]
 fn each_answer_comes_at_once() {
-    let answers = conversation(REPLAY, &["open\t12\t5\t6", "send\t6", "send\t6", "take"]);
-    assert_eq!(answers, ["ok", "sent\t5", "refused\t35", "refused\t38"]);
+    let lines = ["open\t12\t5\t6", "send\t6\t1", "send\t6\t1", "take", "room"];
+    let answers = conversation(REPLAY, &lines);
+    let wanted = ["ok", "sent\t5", "refused\t35", "refused\t38", "room\t0"];
+    assert_eq!(answers, wanted);
     let answers = conversation(LISTER, &["001234000000", "zz"]);
     assert_eq!(answers, ["0\t4660", "unreadable"]);
 }
@@ -88,8 +90,12 @@ fn a_folder_is_told() {
 fn a_closed_pipe_is_told() {
     for (name, program) in BOTH {
         let mut gone = Command::new("true").stdin(Stdio::piped()).spawn().unwrap();
-        let pipe = gone.stdin.take().unwrap();
+        let mut pipe = gone.stdin.take().unwrap();
         gone.wait().unwrap();
+        // What another test starts just now may hold its other end for a moment.
+        while pipe.write_all(b"\n").is_ok() {
+            thread::sleep(Duration::from_millis(1));
+        }
         let input = file(&format!("{name}.pipe"), "take\n");
         let output = run(program, input.into(), pipe.into());
         let said = "lines answered: 0; writing failed, error 32: Broken pipe";

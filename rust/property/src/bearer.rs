@@ -1,6 +1,7 @@
 //! A bearer inside demand 3's bounds, played step by step on the library's
 //! ends under watch, and recorded for another make to play.
 
+use crate::sizes::{desireds, sizes};
 use crate::trace::{Event, Trace};
 use model::pair::Watched;
 use model::{Opening, Pair};
@@ -8,6 +9,7 @@ use programs::replay::Call;
 use proptest::prelude::*;
 use proptest::sample::{Index, select};
 use soak::order::{Before, Edge, Sends};
+use soak::sizes::{self as octets, Desired, Size, Sizes};
 use x2u::circle::Circle;
 use x2u::frame::LONGEST;
 
@@ -40,11 +42,13 @@ pub enum Step {
         skip: u32,
         /// How many sends.
         count: u32,
+        /// The size of the first PDU; later ones have others.
+        size: Size,
     },
     /// A send of any PDCP number.
-    SendAny(u32),
+    SendAny(u32, Size),
     /// A send at a limit of the PDCP order, or so far beside it.
-    SendAt(Edge, i32),
+    SendAt(Edge, i32, Size),
     /// The bearer rests on the master's own radio: once nothing waits, a part
     /// of the PDCP circle goes by in 1,024ths, and `off`; then one is sent.
     Rest {
@@ -81,6 +85,8 @@ pub enum Step {
     ConfirmAny(u16),
     /// A status.
     Status {
+        /// Its desired size.
+        desired: Desired,
         /// Whether it is the last one.
         is_final: bool,
         /// The length of the buffer.
@@ -94,16 +100,42 @@ pub enum Step {
     Take(usize),
 }
 
+impl Step {
+    /// So many sends as they mostly are.
+    #[must_use]
+    pub fn send(count: u32) -> Self {
+        Self::Send {
+            skip: 0,
+            count,
+            size: PDU,
+        }
+    }
+
+    /// A status as it mostly is.
+    #[must_use]
+    pub fn status(is_final: bool) -> Self {
+        Self::Status {
+            desired: Desired::Left(20_000),
+            is_final,
+            room: LONGEST,
+        }
+    }
+}
+
+/// The size of a PDU like any other.
+pub const PDU: Size = Size::Octets(1_400);
+
 /// Steps of every kind.
 pub fn steps() -> impl Strategy<Value = Step> {
     let many = prop_oneof![3 => 1_usize..40, 1 => 200_usize..520];
     let rooms = prop_oneof![4 => Just(1_018_usize), 1 => 0_usize..1_018];
     prop_oneof![
-        8 => (prop_oneof![9 => Just(0_u32), 1 => 0_u32..4], many.clone())
-            .prop_map(|(skip, count)| Step::Send { skip, count: count as u32 }),
-        1 => any::<u32>().prop_map(Step::SendAny),
-        3 => (select(Edge::ALL.to_vec()), -2_i32..3)
-            .prop_map(|(edge, off)| Step::SendAt(edge, off)),
+        8 => (prop_oneof![9 => Just(0_u32), 1 => 0_u32..4], many.clone(), sizes())
+            .prop_map(|(skip, count, size)| Step::Send { skip, count: count as u32, size }),
+        4 => sizes().prop_map(|size| Step::Send { skip: 0, count: 1, size }),
+        1 => (any::<u32>(), sizes()).prop_map(|(pdcp, size)| Step::SendAny(pdcp, size)),
+        3 => (select(Edge::ALL.to_vec()), -2_i32..3, sizes())
+            .prop_map(|(edge, off, size)| Step::SendAt(edge, off, size)),
         3 => rests(),
         8 => (0_usize..3, 2_usize..9, many.clone())
             .prop_map(|(dropped, period, count)| Step::Arrive { dropped, period, count }),
@@ -115,8 +147,8 @@ pub fn steps() -> impl Strategy<Value = Step> {
         8 => (prop_oneof![2 => Just(1_000_usize), 1 => 1_usize..60], many)
             .prop_map(|(passed, count)| Step::Confirm { passed, count }),
         1 => any::<u16>().prop_map(Step::ConfirmAny),
-        6 => (prop::bool::weighted(0.01), rooms)
-            .prop_map(|(is_final, room)| Step::Status { is_final, room }),
+        6 => (desireds(), prop::bool::weighted(0.02), rooms)
+            .prop_map(|(desired, is_final, room)| Step::Status { desired, is_final, room }),
         5 => (1_usize..4).prop_map(Step::Deliver),
         1 => prop::collection::vec(any::<u8>(), 0..20).prop_map(Step::Junk),
         4 => (1_usize..300).prop_map(Step::Take),
@@ -141,6 +173,8 @@ pub struct Bearer {
     pub trace: Trace,
     /// What its sends met.
     pub sends: Sends,
+    /// What its sends and rooms met of sizes.
+    pub sizes: Sizes,
     /// The next packet that has not been on its way yet.
     fresh: usize,
 }
@@ -155,6 +189,7 @@ impl Bearer {
             pair: Pair::open(opening),
             trace: Trace::new(opening),
             sends: Sends::default(),
+            sizes: Sizes::default(),
             fresh: 0,
         }
     }
@@ -166,24 +201,12 @@ impl Bearer {
         self.circle.step(last, skip.wrapping_add(1))
     }
 
-    /// Makes a step. Says so if demand 3 doesn't hold then.
+    /// Makes a step. Says so if demand 3 doesn't hold then, or if the room isn't
+    /// what the packets leave.
     pub fn make(&mut self, step: &Step) -> Result<(), String> {
         match step {
-            Step::Send { skip, count } => {
-                for _ in 0..*count {
-                    let _ = self.send(self.pdcp_after_last(*skip))?;
-                }
-            }
-            Step::SendAny(pdcp) => {
-                let _ = self.send(*pdcp)?;
-            }
-            Step::SendAt(edge, off) => {
-                let _ = self.send(edge.near(self.circle, &self.pair.ledger, *off))?;
-            }
-            Step::Rest { part, off } => {
-                self.drain()?;
-                let pdus = self.circle.size() / 1_024 * part;
-                let _ = self.send(self.pdcp_after_last(pdus.wrapping_add_signed(*off)))?;
+            Step::Send { .. } | Step::SendAny(..) | Step::SendAt(..) | Step::Rest { .. } => {
+                self.make_sends(step)?;
             }
             Step::Arrive {
                 dropped,
@@ -202,14 +225,44 @@ impl Bearer {
             }
             Step::Confirm { passed, count } => self.confirm_some(*passed, *count)?,
             Step::ConfirmAny(number) => self.confirm(u32::from(*number))?,
-            Step::Status { is_final, room } => self.status(*is_final, *room)?,
+            Step::Status {
+                desired,
+                is_final,
+                room,
+            } => self.status(*desired, *is_final, *room)?,
             Step::Deliver(count) => self.deliver(*count)?,
             Step::Junk(octets) => self.junk(octets),
             Step::Take(count) => self.take(*count)?,
         }
         self.trace.call(&Call::Keeper, Event::Keeper);
         self.trace.call(&Call::Ledger, Event::Ledger);
-        self.pair.check()
+        self.pair.check()?;
+        self.room()
+    }
+
+    /// Makes a step of the master's that sends.
+    fn make_sends(&mut self, step: &Step) -> Result<(), String> {
+        match *step {
+            Step::Send { skip, count, size } => {
+                for turn in 0..count {
+                    let _ = self.send(self.pdcp_after_last(skip), size.later(turn))?;
+                }
+            }
+            Step::SendAny(pdcp, size) => {
+                let _ = self.send(pdcp, size)?;
+            }
+            Step::SendAt(edge, off, size) => {
+                let _ = self.send(edge.near(self.circle, &self.pair.ledger, off), size)?;
+            }
+            Step::Rest { part, off } => {
+                self.drain()?;
+                let pdus = self.circle.size() / 1_024 * part;
+                let pdcp = self.pdcp_after_last(pdus.wrapping_add_signed(off));
+                let _ = self.send(pdcp, PDU)?;
+            }
+            _ => {}
+        }
+        Ok(())
     }
 
     /// Sends so many packets, batch by batch: each arrives, is confirmed,
@@ -219,10 +272,7 @@ impl Bearer {
         while self.pair.watch.sent_count() < end {
             let count = (end - self.pair.watch.sent_count()).min(256);
             for step in [
-                Step::Send {
-                    skip: 0,
-                    count: count as u32,
-                },
+                Step::send(count as u32),
                 Step::Arrive {
                     dropped: 0,
                     period: 1,
@@ -232,10 +282,7 @@ impl Bearer {
                     passed: count + 1,
                     count,
                 },
-                Step::Status {
-                    is_final: false,
-                    room: LONGEST,
-                },
+                Step::status(false),
                 Step::Deliver(1),
             ] {
                 self.make(&step)?;
@@ -244,11 +291,14 @@ impl Bearer {
         Ok(())
     }
 
-    /// Sends a packet of that PDCP number.
-    pub fn send(&mut self, pdcp: u32) -> Watched<u32> {
-        self.trace.call(&Call::Send(pdcp), Event::Sent(pdcp));
+    /// Sends a packet of that PDCP number, with a PDU of that size.
+    pub fn send(&mut self, pdcp: u32, size: Size) -> Watched<u32> {
+        let size = size.at(&self.pair.ledger);
+        self.trace
+            .call(&Call::Send([pdcp, size]), Event::Sent(pdcp, size));
         let before = Before::send(self.circle, &self.pair.ledger, pdcp);
-        let answer = self.pair.send(pdcp)?;
+        self.sizes.send(&self.pair.ledger, pdcp, size);
+        let answer = self.pair.send(pdcp, size)?;
         self.sends.count(before, answer);
         Ok(answer)
     }
@@ -263,8 +313,9 @@ impl Bearer {
         self.fresh = sent;
         self.confirm_some(usize::MAX, usize::MAX)?;
         // A full list takes two.
-        self.status(false, LONGEST)?;
-        self.status(false, LONGEST)?;
+        for _ in 0..2 {
+            self.status(Desired::Left(20_000), false, LONGEST)?;
+        }
         self.deliver(usize::MAX)
     }
 
@@ -321,15 +372,27 @@ impl Bearer {
         Ok(())
     }
 
-    fn status(&mut self, is_final: bool, room: usize) -> Result<(), String> {
+    fn status(&mut self, desired: Desired, is_final: bool, room: usize) -> Result<(), String> {
+        let Pair { keeper, ledger, .. } = &self.pair;
+        let left = octets::left_by_status(ledger, self.pair.frames(), keeper, is_final);
+        let desired = desired.at(left);
+        let minimum = desired / 2 + 7;
         let call = Call::Status {
-            desired: 1,
-            minimum: 2,
+            desired,
+            minimum,
             is_final,
             room,
         };
         self.trace.call(&call, Event::Built);
-        self.pair.status([1, 2], is_final, room).map(|_| ())
+        let built = self.pair.status([desired, minimum], is_final, room);
+        built.map(|_| ())
+    }
+
+    /// The room is asked for.
+    fn room(&mut self) -> Result<(), String> {
+        self.trace.call(&Call::Room, Event::Room);
+        self.sizes.room(&self.pair.ledger);
+        self.pair.room().map(|_| ())
     }
 
     fn deliver(&mut self, count: usize) -> Result<(), String> {
@@ -343,6 +406,7 @@ impl Bearer {
             self.trace.call(&Call::Accept(frame), Event::Accepted);
             self.trace.call(&Call::Ledger, Event::Ledger);
             let _ = self.pair.deliver().transpose()?;
+            self.room()?;
         }
         Ok(())
     }
@@ -350,7 +414,10 @@ impl Bearer {
     fn take(&mut self, count: usize) -> Result<(), String> {
         for _ in 0..count {
             self.trace.call(&Call::Take, Event::Taken);
-            let _ = self.pair.take()?;
+            let taken = self.pair.take()?;
+            if taken.is_ok() && self.pair.ledger.is_closed() {
+                self.room()?;
+            }
         }
         Ok(())
     }

@@ -11,5 +11,6 @@ pub mod keeper;
 pub mod replay;
 pub mod rested;
 pub mod scripts;
+pub mod sizes;
 pub mod suite;
 pub mod trace;

@@ -2,11 +2,10 @@
 //! opening to its Final: what request Three of document 02 is about, with the
 //! answers that it gives.
 
-use crate::bearer::{Bearer, Step};
+use crate::bearer::{Bearer, PDU, Step};
 use crate::suite::Verdict;
 use model::Opening;
 use x2u::Refusal::PdcpOrder;
-use x2u::frame::LONGEST;
 use x2u::{Answer, ledger::Fate};
 
 /// Plays it. Says so if an answer isn't as it should be, or demand 3 doesn't hold.
@@ -29,7 +28,7 @@ pub fn play(opening: Opening) -> Result<Bearer, String> {
 
 /// A send, and what it is to come to.
 fn send(bearer: &mut Bearer, pdcp: u32, wanted: Answer<()>) -> Verdict {
-    let answer = bearer.send(pdcp)?.map(|_| ());
+    let answer = bearer.send(pdcp, PDU.later(pdcp))?.map(|_| ());
     if answer == wanted {
         return Ok(());
     }
@@ -75,10 +74,7 @@ fn limits(bearer: &mut Bearer, waits: u32) -> Verdict {
 /// Packets of which two in five are lost, reported, and left with the master.
 fn traffic(bearer: &mut Bearer, count: usize) -> Verdict {
     for step in [
-        Step::Send {
-            skip: 0,
-            count: count as u32,
-        },
+        Step::send(count as u32),
         Step::Arrive {
             dropped: 2,
             period: 5,
@@ -89,10 +85,7 @@ fn traffic(bearer: &mut Bearer, count: usize) -> Verdict {
             passed: usize::MAX,
             count: usize::MAX,
         },
-        Step::Status {
-            is_final: false,
-            room: LONGEST,
-        },
+        Step::status(false),
         Step::Deliver(1),
     ] {
         bearer.make(&step)?;
@@ -146,19 +139,21 @@ fn sent_again(bearer: &mut Bearer) -> Verdict {
 fn end(bearer: &mut Bearer) -> Verdict {
     for step in [
         Step::Rest { part: 700, off: 0 },
-        Step::Send { skip: 1, count: 30 },
-        Step::Status {
-            is_final: true,
-            room: LONGEST,
+        Step::Send {
+            skip: 1,
+            count: 30,
+            size: PDU,
         },
+        Step::status(true),
         Step::Deliver(usize::MAX),
-        Step::Send { skip: 0, count: 1 },
+        Step::send(1),
         Step::Take(512),
     ] {
         bearer.make(&step)?;
     }
     let (tally, sent) = (bearer.pair.tally(), bearer.pair.watch.sent_count());
-    if tally.freed + tally.taken == sent as u64 {
+    let octets = tally.octets;
+    if tally.freed + tally.taken == sent as u64 && octets.freed + octets.taken == octets.sent {
         Ok(())
     } else {
         Err(format!("{sent} were sent, but {tally:?}"))

@@ -6,8 +6,10 @@ use proptest::strategy::{NewTree, ValueTree};
 use proptest::test_runner::TestRunner;
 use soak::moods;
 use soak::rng::Rng as Chance;
+use soak::sizes::LIMITS;
 use std::fmt::{self, Debug, Formatter};
 use std::ops::Range;
+use x2u::ledger::LARGEST_SIZE;
 
 /// Lines without their ends.
 #[derive(Clone, PartialEq, Eq)]
@@ -39,6 +41,8 @@ pub enum Aim {
     Forgotten,
     /// One bearer that rests, with sends at the limits of the PDCP order.
     Rests,
+    /// One bearer with PDUs at the limits of their size, and around the room.
+    Sizes,
 }
 
 impl Strategy for Aim {
@@ -52,6 +56,7 @@ impl Strategy for Aim {
             Self::Turn => moods::long_script(fork(), true).text,
             Self::Forgotten => moods::long_script(fork(), false).text,
             Self::Rests => moods::rested(fork()).text,
+            Self::Sizes => moods::sized(fork()).text,
             Self::Moods(least) => {
                 let mut text = moods::unopened(fork());
                 let mut lines = 0;
@@ -149,6 +154,15 @@ fn numbers() -> impl Strategy<Value = u32> {
     ]
 }
 
+/// A size as a script may have one: mostly one that is allowed.
+fn sizes() -> impl Strategy<Value = u32> {
+    prop_oneof![
+        6 => 1_u32..=LARGEST_SIZE,
+        2 => prop::sample::select(LIMITS.to_vec()),
+        1 => numbers(),
+    ]
+}
+
 /// A line that aims at nothing: any call with any numbers.
 fn random_line() -> impl Strategy<Value = Vec<u8>> {
     let bits = prop_oneof![9 => prop::sample::select(vec![12_u32, 15, 18]), 1 => 0_u32..40];
@@ -160,12 +174,13 @@ fn random_line() -> impl Strategy<Value = Vec<u8>> {
         4 => numbers().prop_map(|n| format!("confirm\t{n}")),
         2 => (numbers(), numbers(), 0_u32..3, room)
             .prop_map(|(d, m, last, room)| format!("status\t{d}\t{m}\t{}\t{room}", last / 2)),
-        6 => numbers().prop_map(|p| format!("send\t{p}")),
+        6 => (numbers(), sizes()).prop_map(|(p, size)| format!("send\t{p}\t{size}")),
         4 => crate::frames::any_frame().prop_map(|frame| {
             let digits: String = frame.0.iter().map(|octet| format!("{octet:02x}")).collect();
             format!("accept\t{digits}")
         }),
         2 => Just("take".to_owned()),
+        2 => Just("room".to_owned()),
         1 => Just("keeper".to_owned()),
         1 => Just("ledger".to_owned()),
         1 => "[a-z\t0-9 ]{0,30}",

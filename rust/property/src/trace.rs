@@ -15,8 +15,8 @@ use x2u::{Answer, Refusal};
 pub enum Event {
     /// Both ends are opened.
     Opened,
-    /// A send of this PDCP number.
-    Sent(u32),
+    /// A send of this PDCP number, and of a PDU of this size.
+    Sent(u32, u32),
     /// A copy of this packet arrives.
     Arrived(usize),
     /// Expiry.
@@ -29,6 +29,8 @@ pub enum Event {
     Accepted,
     /// A take.
     Taken,
+    /// The room is asked for.
+    Room,
     /// A call that has to be refused.
     Refused,
     /// A look at the secondary.
@@ -119,8 +121,8 @@ impl Told {
             Event::Opened => said
                 .ok()?
                 .map_err(|refusal| format!("not opened: {refusal:?}")),
-            Event::Sent(pdcp) => match said.numbers::<1>("sent")? {
-                Ok([number]) => self.watch.sent(pdcp, number),
+            Event::Sent(pdcp, size) => match said.numbers::<1>("sent")? {
+                Ok([number]) => self.watch.sent(pdcp, size, number),
                 Err(_) => Ok(()),
             },
             Event::Arrived(packet) => self.watch.arrived(packet, said.lost()?),
@@ -129,6 +131,7 @@ impl Told {
             Event::Built => self.built(&said),
             Event::Accepted => self.accepted(line, &said, next),
             Event::Taken => self.watch.taken(self.closed, said.taken()?),
+            Event::Room => self.watch.room(said.room()?),
             Event::Refused => match said.refusal() {
                 Some(_) => Ok(()),
                 None => Err(format!("not refused: {said:?}")),
@@ -145,7 +148,7 @@ impl Told {
         let Frame::Status { report, ranges, .. } = frame::read(&octets) else {
             return Err(format!("no status was built: {said:?}"));
         };
-        self.watch.built(report.highest, ranges)?;
+        self.watch.built(&report, ranges)?;
         self.frames.push_back(octets);
         Ok(())
     }
@@ -250,9 +253,17 @@ impl<'a> Said<'a> {
         }
     }
 
-    fn taken(&self) -> Result<Answer<(u32, u32)>, String> {
-        let taken = self.numbers::<2>("taken")?;
-        Ok(taken.map(|[number, pdcp]| (number, pdcp)))
+    fn taken(&self) -> Result<Answer<(u32, u32, u32)>, String> {
+        let taken = self.numbers("taken")?;
+        Ok(taken.map(|[number, pdcp, size]| (number, pdcp, size)))
+    }
+
+    /// The room, which is never refused.
+    fn room(&self) -> Result<u32, String> {
+        match self.numbers("room")? {
+            Ok([octets]) => Ok(octets),
+            Err(_) => self.wrong(),
+        }
     }
 
     fn runs(&self) -> Result<Vec<Range>, String> {
@@ -271,11 +282,15 @@ impl<'a> Said<'a> {
     fn entries(&self) -> Result<Vec<Entry>, String> {
         match self.fields[..] {
             ["ledger", _, _, _, _, _, _, entries] => listed(entries, |entry| {
-                let mut parts = entry.split(':');
+                let parts: Vec<&str> = entry.split(':').collect();
+                let [number, pdcp, fate, size] = parts[..] else {
+                    return None;
+                };
                 Some(Entry {
-                    number: parts.next()?.parse().ok()?,
-                    pdcp: parts.next()?.parse().ok()?,
-                    fate: match parts.next()? {
+                    number: number.parse().ok()?,
+                    pdcp: pdcp.parse().ok()?,
+                    size: size.parse().ok()?,
+                    fate: match fate {
                         "w" => Fate::Waiting,
                         "l" => Fate::Lost,
                         _ => return None,

@@ -6,33 +6,34 @@ use property::suite::holds_on;
 use proptest::collection::vec;
 use proptest::prelude::*;
 use soak::order::Sends;
+use soak::sizes::{Desired, Sizes};
 use std::cell::RefCell;
 use x2u::Refusal;
+use x2u::frame::LONGEST;
 
 #[test]
 fn demand_3_holds() {
-    let sends = RefCell::new(Sends::default());
+    let met = RefCell::new((Sends::default(), Sizes::default()));
     let bearers = (openings(6), vec(steps(), 1..120));
     holds_on(300, &bearers, |(opening, steps)| {
         let mut bearer = Bearer::new(opening);
         for step in &steps {
             bearer.make(step).map_err(TestCaseError::fail)?;
         }
-        sends.borrow_mut().add(bearer.sends);
+        met.borrow_mut().0.add(bearer.sends);
+        met.borrow_mut().1.add(bearer.sizes);
         Ok(())
     });
-    let sends = sends.into_inner();
+    let (sends, sizes) = met.into_inner();
     assert!(sends.least() >= 50, "{sends}");
+    assert!(sizes.least() >= 10, "{sizes}");
 }
 
 /// More runs than a frame carries: the highest is held back, and demand 3 with
 /// it.
 #[test]
 fn demand_3_holds_with_a_run_left_out() {
-    let status = Step::Status {
-        is_final: false,
-        room: 1_018,
-    };
+    let status = Step::status(false);
     for bits in [12, 15, 18] {
         let mut bearer = Bearer::new(Opening {
             bits,
@@ -40,14 +41,7 @@ fn demand_3_holds_with_a_run_left_out() {
             first_pdcp: 4_000,
         });
         for (step, runs, freed) in [
-            (
-                Step::Send {
-                    skip: 0,
-                    count: 512,
-                },
-                0,
-                0,
-            ),
+            (Step::send(512), 0, 0),
             (
                 Step::Arrive {
                     dropped: 1,
@@ -118,12 +112,7 @@ fn demand_3_holds_over_rollovers() {
         });
         let mut opposite = 0;
         for round in 0..1_500 {
-            bearer
-                .make(&Step::Send {
-                    skip: 0,
-                    count: 100 + round % 7,
-                })
-                .unwrap();
+            bearer.make(&Step::send(100 + round % 7)).unwrap();
             bearer.arrive(1 + round as usize % 2, 11, 106).unwrap();
             opposite += old_copies(&mut bearer);
             bearer.make(&Step::Expire).unwrap();
@@ -133,10 +122,7 @@ fn demand_3_holds_over_rollovers() {
                     passed: 1_000,
                     count: 600,
                 },
-                Step::Status {
-                    is_final: false,
-                    room: 1_018,
-                },
+                Step::status(false),
                 Step::Deliver(1),
                 Step::Take(100),
             ] {
@@ -165,7 +151,7 @@ fn a_copy_opposite_base_keeps_demand_3() {
         assert_eq!(watch.oldest_copy(), Some(0));
         assert_eq!(bearer.arrive_packet(0), Ok(Err(Refusal::Opposite)));
         assert_eq!(bearer.arrive_packet(1), Ok(Err(Refusal::Late)));
-        bearer.make(&Step::Send { skip: 0, count: 1 }).unwrap();
+        bearer.make(&Step::send(1)).unwrap();
         assert!(!bearer.pair.watch.may_arrive(0));
         assert_eq!(bearer.pair.watch.oldest_copy(), Some(1));
     }
@@ -193,12 +179,61 @@ fn the_watch_sees_a_send_out_of_order() {
             (&[20, 25, 19 + half], false),
         ] {
             let mut watch = fresh.clone();
-            let told = (0..).zip(sends).map(|(n, &pdcp)| watch.sent(pdcp, n));
+            let told = (0..).zip(sends).map(|(n, &pdcp)| watch.sent(pdcp, 1, n));
             let told: Vec<_> = told.collect();
             let (last, before) = told.split_last().unwrap();
             assert!(before.iter().all(Result::is_ok), "{sends:?}: {told:?}");
             assert_eq!(last.is_err(), seen, "{sends:?}: {told:?}");
         }
+    }
+}
+
+/// A bearer of L = 12 from number 0 and PDCP number 0 on.
+const PLAIN: Opening = Opening {
+    bits: 12,
+    first: 0,
+    first_pdcp: 0,
+};
+
+#[test]
+fn the_watch_sees_a_size_that_no_pdu_has() {
+    for (size, seen) in [(0, true), (1, false), (16_384, false), (16_385, true)] {
+        let told = Watch::new(PLAIN).sent(0, size, 0);
+        assert_eq!(told.is_err(), seen, "{size}: {told:?}");
+    }
+}
+
+/// A room, or the size of what is taken, that isn't the packets'.
+#[test]
+fn the_watch_sees_a_wrong_room_and_a_wrong_size() {
+    assert!(Watch::new(PLAIN).room(0).is_ok());
+    assert!(Watch::new(PLAIN).room(1).is_err());
+    let mut bearer = Bearer::new(PLAIN);
+    for step in [
+        Step::send(10),
+        Step::Arrive {
+            dropped: 1,
+            period: 5,
+            count: 8,
+        },
+        Step::Expire,
+        Step::Status {
+            desired: Desired::Left(500),
+            is_final: false,
+            room: LONGEST,
+        },
+        Step::Deliver(1),
+    ] {
+        bearer.make(&step).unwrap();
+    }
+    let watch = &bearer.pair.watch;
+    for (room, seen) in [(499, true), (500, false), (501, true), (0, true)] {
+        assert_eq!(watch.clone().room(room).is_err(), seen, "{room}");
+    }
+    let size = watch.size(0);
+    for (answer, seen) in [(size - 1, true), (size, false), (size + 1, true)] {
+        let told = watch.clone().taken(false, Ok((0, 0, answer)));
+        assert_eq!(told.is_err(), seen, "{answer}");
     }
 }
 

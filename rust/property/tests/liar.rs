@@ -81,7 +81,7 @@ fn bearer() -> Bearer {
         first_pdcp: 4_093,
     });
     for step in [
-        Step::Send { skip: 0, count: 10 },
+        Step::send(10),
         Step::Arrive {
             dropped: 1,
             period: 5,
@@ -92,10 +92,7 @@ fn bearer() -> Bearer {
             passed: 1_000,
             count: 10,
         },
-        Step::Status {
-            is_final: false,
-            room: 1_018,
-        },
+        Step::status(false),
         Step::Deliver(1),
         Step::Take(2),
     ] {
@@ -117,13 +114,16 @@ fn demand_3_is_told_from_answers_alone() {
 
     // Each of these lies is a violation, at whatever line the answer stands.
     type Lie = fn(&str) -> String;
-    let lies: [(&str, Lie); 6] = [
+    let lies: [(&str, Lie); 9] = [
         ("sent", |answer| answer.replace("65530", "65531")),
         ("lost", |answer| answer.replace("\t2", "\t1")),
         ("frame", |answer| answer.replace("02fffa", "02fffb")),
         ("freed", |answer| answer.replace("freed\t8", "freed\t7")),
         ("ledger", |answer| answer.replacen(":l", ":w", 1)),
+        ("ledger", |answer| answer.replacen(":l:1", ":l:2", 1)),
         ("taken", |answer| answer.replace("65530", "65531")),
+        ("taken", |answer| format!("{answer}0")),
+        ("room", |answer| format!("{answer}1")),
     ];
     for (word, lie) in lies {
         let mut told = answers.clone();

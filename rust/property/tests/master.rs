@@ -4,14 +4,17 @@ use model::demand::waiting_in_order;
 use model::master::Fate as Told;
 use model::{Master, Opening};
 use property::bearer::openings;
+use property::sizes::{desireds, sizes};
 use property::suite::holds_on;
 use proptest::collection::vec;
 use proptest::prelude::*;
 use proptest::sample::{Index, select};
+use soak::frames;
 use soak::order::{Before, Edge, Sends, last_left};
+use soak::sizes::{self as octets, Desired, Size, Sizes};
 use std::cell::RefCell;
-use x2u::frame::{self, Frame, LONGEST, Range, Report};
-use x2u::ledger::Fate;
+use x2u::frame::{self, Frame, Range, Report};
+use x2u::ledger::{Entry, Fate};
 use x2u::{Bearer, Form, Ledger, Refusal};
 
 /// Where a status gets its highest from.
@@ -39,10 +42,11 @@ enum Call {
     Send {
         skip: u32,
         count: u32,
+        size: Size,
     },
     /// A send at a limit of the PDCP order, or so far beside it.
-    SendAt(Edge, i32),
-    SendAny(u32),
+    SendAt(Edge, i32, Size),
+    SendAny(u32, Size),
     /// A status naming entries from `from` on, `run` of every `period`.
     Accept {
         highest: Highest,
@@ -51,6 +55,7 @@ enum Call {
         period: usize,
         ranges: usize,
         spoil: Spoil,
+        desired: Desired,
         is_final: bool,
         form: Form,
     },
@@ -59,25 +64,34 @@ enum Call {
 }
 
 fn calls() -> impl Strategy<Value = Call> {
+    let offs = prop_oneof![Just(0_i32), -2_i32..3];
     prop_oneof![
-        6 => (prop_oneof![4 => Just(0_u32), 1 => 0_u32..9], 1_u32..90)
-            .prop_map(|(skip, count)| Call::Send { skip, count }),
-        1 => (0_u32..1, 100_u32..400).prop_map(|(skip, count)| Call::Send { skip, count }),
-        4 => (select(Edge::ALL.to_vec()), -2_i32..3).prop_map(|(edge, off)| Call::SendAt(edge, off)),
+        6 => sends(prop_oneof![4 => Just(0_u32), 1 => 0_u32..9], 1_u32..90),
+        2 => sends(Just(0_u32), 100_u32..600),
+        4 => sends(Just(0_u32), Just(1_u32)),
+        6 => (select(Edge::ALL.to_vec()), offs, sizes())
+            .prop_map(|(edge, off, size)| Call::SendAt(edge, off, size)),
         // A rest, up to a whole turn of the longest circle and more.
-        4 => (0_u32..1 << 18, 1_u32..3).prop_map(|(skip, count)| Call::Send { skip, count }),
-        1 => any::<u32>().prop_map(Call::SendAny),
+        4 => sends(0_u32..1 << 18, 1_u32..3),
+        2 => (any::<u32>(), sizes()).prop_map(|(pdcp, size)| Call::SendAny(pdcp, size)),
         10 => accepts(),
         1 => vec(any::<u8>(), 0..30).prop_map(Call::AcceptAny),
         3 => (1_usize..60).prop_map(Call::Take),
     ]
 }
 
+fn sends(
+    skips: impl Strategy<Value = u32>,
+    counts: impl Strategy<Value = u32>,
+) -> impl Strategy<Value = Call> {
+    (skips, counts, sizes()).prop_map(|(skip, count, size)| Call::Send { skip, count, size })
+}
+
 fn accepts() -> impl Strategy<Value = Call> {
     let highest = prop_oneof![
         3 => Just(Highest::Last),
         6 => any::<Index>().prop_map(Highest::OfEntry),
-        3 => Just(Highest::OfLastLeft),
+        5 => Just(Highest::OfLastLeft),
         1 => (0_u32..40_000).prop_map(Highest::Any),
     ];
     let spoil = prop_oneof![
@@ -93,18 +107,52 @@ fn accepts() -> impl Strategy<Value = Call> {
         1_usize..9,
         prop_oneof![0_usize..5, 0_usize..163],
     );
-    (highest, list, spoil, prop::bool::weighted(0.02), form).prop_map(
-        |(highest, (from, run, period, ranges), spoil, is_final, form)| Call::Accept {
+    let says = (desireds(), prop::bool::weighted(0.02), form);
+    (highest, list, spoil, says).prop_map(
+        |(highest, (from, run, period, ranges), spoil, (desired, is_final, form))| Call::Accept {
             highest,
             from,
             run,
             period,
             ranges,
             spoil,
+            desired,
             is_final,
             form,
         },
     )
+}
+
+/// The ranges that a call names of the entries that wait.
+fn named(call: &Call, entries: &[Entry]) -> Vec<Range> {
+    let Call::Accept {
+        from,
+        run,
+        period,
+        ranges,
+        ..
+    } = call
+    else {
+        unreachable!();
+    };
+    let start = if entries.is_empty() {
+        0
+    } else {
+        from.index(entries.len())
+    };
+    let mut list: Vec<Range> = Vec::new();
+    let waiting = entries[start..].iter().filter(|e| e.fate == Fate::Waiting);
+    for (i, entry) in waiting.enumerate().filter(|(i, _)| i % period < *run) {
+        match list.last_mut() {
+            Some(last) if i % period != 0 => last.end = entry.number,
+            _ => list.push(Range {
+                start: entry.number,
+                end: entry.number,
+            }),
+        }
+    }
+    list.truncate(*ranges);
+    list
 }
 
 struct Test {
@@ -113,6 +161,7 @@ struct Test {
     ledger: Ledger,
     model: Master,
     sends: Sends,
+    sizes: Sizes,
 }
 
 impl Test {
@@ -124,20 +173,22 @@ impl Test {
             ledger: Ledger::open(opening.bits, first, first_pdcp).unwrap(),
             model: Master::open(opening),
             sends: Sends::default(),
+            sizes: Sizes::default(),
         }
     }
 
     fn make(&mut self, call: &Call) -> Result<(), TestCaseError> {
         match call {
-            Call::Send { skip, count } => {
-                for _ in 0..*count {
-                    self.send(self.bearer.pdcp.step(self.ledger.last_sent(), skip + 1))?;
+            Call::Send { skip, count, size } => {
+                for turn in 0..*count {
+                    let pdcp = self.bearer.pdcp.step(self.ledger.last_sent(), skip + 1);
+                    self.send(pdcp, size.later(turn))?;
                 }
             }
-            Call::SendAt(edge, off) => {
-                self.send(edge.near(self.bearer.pdcp, &self.ledger, *off))?
+            Call::SendAt(edge, off, size) => {
+                self.send(edge.near(self.bearer.pdcp, &self.ledger, *off), *size)?;
             }
-            Call::SendAny(pdcp) => self.send(*pdcp)?,
+            Call::SendAny(pdcp, size) => self.send(*pdcp, *size)?,
             Call::Accept { .. } => {
                 let octets = self.status(call);
                 self.accept(&octets)?;
@@ -145,19 +196,29 @@ impl Test {
             Call::AcceptAny(octets) => self.accept(octets)?,
             Call::Take(count) => {
                 for _ in 0..*count {
-                    let taken = self.ledger.take().map(|entry| (entry.number, entry.pdcp));
+                    let taken = self.ledger.take();
+                    let taken = taken.map(|entry| (entry.number, entry.pdcp, entry.size.into()));
                     prop_assert_eq!(taken, self.model.take());
+                    self.room()?;
                 }
             }
         }
         self.compare()
     }
 
-    fn send(&mut self, pdcp: u32) -> Result<(), TestCaseError> {
+    fn send(&mut self, pdcp: u32, size: Size) -> Result<(), TestCaseError> {
+        let size = size.at(&self.ledger);
         let before = Before::send(self.bearer.pdcp, &self.ledger, pdcp);
-        let answer = self.ledger.send(pdcp);
-        prop_assert_eq!(answer, self.model.send(pdcp));
+        self.sizes.send(&self.ledger, pdcp, size);
+        let answer = self.ledger.send(pdcp, size);
+        prop_assert_eq!(answer, self.model.send(pdcp, size));
         self.sends.count(before, answer);
+        self.room()
+    }
+
+    fn room(&mut self) -> Result<(), TestCaseError> {
+        self.sizes.room(&self.ledger);
+        prop_assert_eq!(self.ledger.room(), self.model.room());
         Ok(())
     }
 
@@ -182,41 +243,23 @@ impl Test {
             answer.map(|settled| (settled.freed, settled.lost)),
             expected
         );
-        Ok(())
+        self.room()
     }
 
     fn status(&self, call: &Call) -> Vec<u8> {
         let Call::Accept {
             highest,
-            from,
-            run,
-            period,
-            ranges,
             spoil,
+            desired,
             is_final,
             form,
+            ..
         } = call
         else {
             unreachable!();
         };
         let entries: Vec<_> = self.ledger.entries().copied().collect();
-        let mut list: Vec<Range> = Vec::new();
-        let start = if entries.is_empty() {
-            0
-        } else {
-            from.index(entries.len())
-        };
-        let waiting = entries[start..].iter().filter(|e| e.fate == Fate::Waiting);
-        for (i, entry) in waiting.enumerate().filter(|(i, _)| i % period < *run) {
-            match list.last_mut() {
-                Some(last) if i % period != 0 => last.end = entry.number,
-                _ => list.push(Range {
-                    start: entry.number,
-                    end: entry.number,
-                }),
-            }
-        }
-        list.truncate(*ranges);
+        let mut list = named(call, &entries);
         let highest = match highest {
             Highest::OfEntry(index) if !entries.is_empty() => index.get(&entries).pdcp,
             Highest::OfLastLeft => last_left(self.bearer.numbers(), &self.ledger, &list),
@@ -230,15 +273,15 @@ impl Test {
         } else {
             *form
         };
-        let report = Report {
+        let mut report = Report {
             highest: highest.min(form.largest_highest()),
-            desired: list.len() as u32,
+            desired: 0,
             minimum: 5,
             is_final: *is_final,
         };
-        let mut buffer = [0; LONGEST];
-        let length = frame::write_status(form, &report, &list, &mut buffer).unwrap();
-        buffer[..length].to_vec()
+        let left = octets::left(&self.ledger, &frames::status(form, &report, &list));
+        report.desired = desired.at(left);
+        frames::status(form, &report, &list)
     }
 
     fn spoil(&self, list: &mut Vec<Range>, spoil: &Spoil) {
@@ -279,7 +322,7 @@ impl Test {
         let entries: Vec<_> = self
             .ledger
             .entries()
-            .map(|e| (e.number, e.pdcp, fates(e.fate)))
+            .map(|e| (e.number, e.pdcp, e.size.into(), fates(e.fate)))
             .collect();
         let expected: Vec<_> = self
             .model
@@ -308,16 +351,18 @@ impl Test {
 
 #[test]
 fn the_ledger_is_the_naive_one() {
-    let sends = RefCell::new(Sends::default());
+    let met = RefCell::new((Sends::default(), Sizes::default()));
     let bearers = (openings(6), vec(calls(), 1..80));
     holds_on(300, &bearers, |(opening, calls)| {
         let mut test = Test::new(opening);
         for call in &calls {
             test.make(call)?;
         }
-        sends.borrow_mut().add(test.sends);
+        met.borrow_mut().0.add(test.sends);
+        met.borrow_mut().1.add(test.sizes);
         Ok(())
     });
-    let sends = sends.into_inner();
+    let (sends, sizes) = met.into_inner();
     assert!(sends.least() >= 50, "{sends}");
+    assert!(sizes.least() >= 20, "{sizes}");
 }

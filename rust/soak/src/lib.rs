@@ -11,4 +11,5 @@ pub mod ramp;
 pub mod rng;
 pub mod script;
 pub mod shrink;
+pub mod sizes;
 pub mod table;

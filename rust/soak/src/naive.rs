@@ -51,12 +51,13 @@ impl Naive {
                 "ok".to_owned()
             }
             Call::Status { is_final, room, .. } => self.status(is_final, room)?,
-            Call::Send(pdcp) => format!("sent\t{}", self.master.send(pdcp)?),
+            Call::Send([pdcp, size]) => format!("sent\t{}", self.master.send(pdcp, size)?),
             Call::Accept(octets) => self.accept(octets)?,
             Call::Take => {
-                let (number, pdcp) = self.master.take()?;
-                format!("taken\t{number}\t{pdcp}")
+                let (number, pdcp, size) = self.master.take()?;
+                format!("taken\t{number}\t{pdcp}\t{size}")
             }
+            Call::Room => format!("room\t{}", self.master.room()),
             Call::Keeper => self.keeper(),
             Call::Ledger => self.ledger(),
         })
@@ -121,9 +122,9 @@ impl Naive {
     fn ledger(&self) -> String {
         let model = &self.master;
         let entries = joined(model.held().into_iter().map(|index| {
-            let (number, pdcp, fate) = model.entry(index);
+            let (number, pdcp, size, fate) = model.entry(index);
             let mark = if fate == Fate::Lost { 'l' } else { 'w' };
-            format!("{number}:{pdcp}:{mark}")
+            format!("{number}:{pdcp}:{mark}:{size}")
         }));
         let next = self.opening.number(model.sent());
         let (highest, last_sent) = model.pdcp_marks();

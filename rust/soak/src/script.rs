@@ -5,6 +5,7 @@
 use crate::frames;
 use crate::order::{Before, Edge, Sends};
 use crate::rng::Rng;
+use crate::sizes::{self, LIMITS, Sizes};
 use std::collections::VecDeque;
 use std::io::Write;
 use x2u::frame::LONGEST;
@@ -45,6 +46,8 @@ pub struct Script {
     pub ends: Ends,
     /// What its sends met.
     pub sends: Sends,
+    /// What its sends and rooms met of sizes.
+    pub sizes: Sizes,
 }
 
 impl Script {
@@ -67,6 +70,7 @@ impl Script {
             rng,
             ends: opened(bits, first, first_pdcp),
             sends: Sends::default(),
+            sizes: Sizes::default(),
         };
         script.line(b"open", &[bits, first, first_pdcp]);
         script
@@ -146,7 +150,17 @@ impl Script {
 
     /// A status in a buffer of `room`. The frame, if there is one, is under way.
     pub fn status(&mut self, is_final: bool, room: usize) {
-        let (desired, minimum) = (self.rng.word(), self.rng.word());
+        let Ends {
+            ledger,
+            frames,
+            keeper,
+            ..
+        } = &self.ends;
+        // The oldest frames under way will do.
+        let frames = frames.iter().take(8).map(Vec::as_slice);
+        let left = sizes::left_by_status(ledger, frames, keeper, is_final);
+        let desired = sizes::desired(&mut self.rng, left);
+        let minimum = self.rng.word();
         let mut buffer = [0; LONGEST];
         let lent = &mut buffer[..room.min(LONGEST)];
         let built = self.ends.keeper.status(desired, minimum, is_final, lent);
@@ -159,16 +173,29 @@ impl Script {
         );
     }
 
-    /// A send. The packet, if it goes out, is under way.
+    /// A send of a PDU of some size that is allowed.
     pub fn send(&mut self, pdcp: u32) {
+        let size = sizes::usual(&mut self.rng, &self.ends.ledger);
+        self.send_sized(pdcp, size);
+    }
+
+    /// A send of a PDU whose size is at a limit, or beyond.
+    pub fn send_at_limit(&mut self, pdcp: u32) {
+        let size = self.rng.pick(&LIMITS);
+        self.send_sized(pdcp, size);
+    }
+
+    /// A send. The packet, if it goes out, is under way.
+    fn send_sized(&mut self, pdcp: u32, size: u32) {
         let Ends { bearer, ledger, .. } = &mut self.ends;
         let before = Before::send(bearer.pdcp, ledger, pdcp);
-        let answer = ledger.send(pdcp);
+        self.sizes.send(ledger, pdcp, size);
+        let answer = ledger.send(pdcp, size);
         self.sends.count(before, answer);
         if let Ok(number) = answer {
             self.ends.under_way.push_back((number, pdcp));
         }
-        self.line(b"send", &[pdcp]);
+        self.line(b"send", &[pdcp, size]);
     }
 
     /// The send that is next in order, after `skip` PDCP numbers left out.
@@ -177,10 +204,22 @@ impl Script {
         self.send(pdcp.step(self.ends.ledger.last_sent(), 1 + skip));
     }
 
-    /// A send at a limit of the PDCP order, or one or two beside it.
+    /// The same with a size at a limit, or beyond.
+    pub fn send_next_at_limit(&mut self) {
+        let pdcp = self.ends.bearer.pdcp;
+        self.send_at_limit(pdcp.step(self.ends.ledger.last_sent(), 1));
+    }
+
+    /// A send at a limit of the PDCP order, or one or two beside it; one in
+    /// five at a limit of sizes too.
     pub fn send_at_edge(&mut self) {
         let (edge, off) = (self.rng.pick(&Edge::ALL), self.rng.pick(&[-2, -1, 0, 1, 2]));
-        self.send(edge.near(self.ends.bearer.pdcp, &self.ends.ledger, off));
+        let pdcp = edge.near(self.ends.bearer.pdcp, &self.ends.ledger, off);
+        if self.rng.once_in(5) {
+            self.send_at_limit(pdcp);
+        } else {
+            self.send(pdcp);
+        }
     }
 
     /// The send that is next in order after a rest: as many PDUs as went over
@@ -217,10 +256,17 @@ impl Script {
         self.line(b"take", &[]);
     }
 
-    /// Shows both ends.
+    /// Asks for the room.
+    pub fn room(&mut self) {
+        self.sizes.room(&self.ends.ledger);
+        self.line(b"room", &[]);
+    }
+
+    /// Shows both ends, and the room.
     pub fn show(&mut self) {
         self.line(b"keeper", &[]);
         self.line(b"ledger", &[]);
+        self.room();
     }
 }
 

@@ -6,6 +6,7 @@ use soak::compare::{Frames, Scripts, Source};
 use soak::moods;
 use soak::order::Sends;
 use soak::rng::Rng;
+use soak::sizes::Sizes;
 use soak::table::Table;
 use std::io;
 use x2u::Refusal;
@@ -44,13 +45,16 @@ fn scripts_meet_every_refusal_often() {
 }
 
 #[test]
-fn scripts_rest_and_meet_the_limits_of_the_order() {
+fn scripts_meet_the_limits_of_the_order_of_sizes_and_of_the_room() {
     let mut rng = Rng::new(7);
-    let mut sends = Sends::default();
+    let (mut sends, mut sizes) = (Sends::default(), Sizes::default());
     for _ in 0..300 {
-        sends.add(moods::script(Rng::new(rng.bits())).sends);
+        let script = moods::script(Rng::new(rng.bits()));
+        sends.add(script.sends);
+        sizes.add(script.sizes);
     }
     assert!(sends.least() >= 40, "{sends}");
+    assert!(sizes.least() >= 40, "{sizes}");
 }
 
 #[test]

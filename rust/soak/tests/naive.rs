@@ -5,6 +5,7 @@ use soak::naive::alike;
 use soak::order::Sends;
 use soak::rng::Rng;
 use soak::script::Script;
+use soak::sizes::Sizes;
 use std::fs;
 use std::path::Path;
 use x2u::frame::LONGEST;
@@ -33,7 +34,9 @@ fn library_and_model_give_the_answers_on_paper() {
     for file in fs::read_dir(folder).unwrap() {
         let text = fs::read_to_string(file.unwrap().path()).unwrap();
         for case in text.split("\n\n").filter(|case| case.contains(" = ")) {
+            // What is no call is no matter of the model's.
             let lines = case.lines().filter_map(|line| line.split_once(" = "));
+            let lines = lines.filter(|&(_, answer)| answer != "unreadable");
             let (calls, wanted): (Vec<_>, Vec<_>) = lines
                 .map(|(call, answer)| (call.replace(' ', "\t"), answer.replace(' ', "\t")))
                 .unzip();
@@ -42,7 +45,7 @@ fn library_and_model_give_the_answers_on_paper() {
             cases += 1;
         }
     }
-    assert!(cases > 20, "{cases} cases");
+    assert!(cases > 35, "{cases} cases");
 }
 
 /// Rests of every length, and sends at the limits of the PDCP order.
@@ -56,6 +59,20 @@ fn the_library_is_the_naive_model_on_rests() {
         sends.add(script.sends);
     }
     assert!(sends.least() >= 100, "{sends}");
+}
+
+/// PDUs at the limits of their size and around the room, which is asked for all
+/// the time.
+#[test]
+fn the_library_is_the_naive_model_on_sizes() {
+    let mut rng = Rng::new(19);
+    let mut sizes = Sizes::default();
+    for _ in 0..60 {
+        let script = moods::sized(Rng::new(rng.bits()));
+        let _ = play(&script);
+        sizes.add(script.sizes);
+    }
+    assert!(sizes.least() >= 10, "{sizes}");
 }
 
 /// Half a circle of packets, of which every one arrives and is freed. Then a copy
@@ -84,7 +101,7 @@ fn half_a_circle_of_packets() {
     let answers = play(&script);
     let freed = |answer: &&String| answer.starts_with("freed\t256\tlost\t0");
     assert_eq!(answers.iter().filter(freed).count(), 128);
-    let [keeper, ledger, first, second] = &answers[answers.len() - 4..] else {
+    let [keeper, ledger, _, first, second] = &answers[answers.len() - 5..] else {
         panic!("{answers:?}");
     };
     // Base is the next number to be sent.

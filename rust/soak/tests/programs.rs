@@ -122,13 +122,16 @@ fn a_short_ramp_passes_and_is_drawn() {
         assert_eq!(met.contains("18  opposite"), bits != "18", "{met}");
         // Some of these rests begin while packets wait, which are then in front.
         assert!(met.contains("35  PDCP order"), "{met}");
+        assert!(met.contains("39  size of 0 or above"), "{met}");
         assert!(report.contains("together, all rests"), "{report}");
         assert!(
             report.contains("together, all PDCP numbers used"),
             "{report}"
         );
+        assert!(report.contains("together, all octets sent"), "{report}");
         let (_, untested) = report.split_once("Not tested in this run").unwrap();
         assert!(!untested.contains("A rest of more than"), "{untested}");
+        assert!(!untested.contains("A room "), "{untested}");
         let chart = fs::read_to_string(folder.join("ramp.svg")).unwrap();
         assert!(chart.starts_with("<svg") && chart.trim_end().ends_with("</svg>"));
     }

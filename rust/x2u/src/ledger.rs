@@ -9,6 +9,8 @@ use crate::ring::Ring;
 
 /// The most entries held.
 pub const MOST_ENTRIES: usize = 512;
+/// The largest size of a PDU, in octets; the smallest is 1.
+pub const LARGEST_SIZE: u32 = 16_384;
 
 /// What became of a packet that is still held.
 #[derive(Clone, Copy, Debug, PartialEq, Eq)]
@@ -26,6 +28,9 @@ pub struct Entry {
     pub number: u32,
     /// Its PDCP number.
     pub pdcp: u32,
+    /// Its size in octets, in no more bits than it needs: an entry is as small
+    /// as it was without.
+    pub size: u16,
     /// What became of it.
     pub fate: Fate,
 }
@@ -67,6 +72,7 @@ impl Ledger {
         let filler = Entry {
             number: 0,
             pdcp: 0,
+            size: 0,
             fate: Fate::Waiting,
         };
         Ok(Self {
@@ -82,10 +88,12 @@ impl Ledger {
         })
     }
 
-    /// Sends the packet of that PDCP number and answers its X2-U number.
-    pub fn send(&mut self, pdcp: u32) -> Answer<u32> {
+    /// Sends the packet of that PDCP number, whose PDU has `size` octets, and
+    /// answers its X2-U number.
+    pub fn send(&mut self, pdcp: u32, size: u32) -> Answer<u32> {
         refuse_if(self.closed, Refusal::Closed)?;
         refuse_if(!self.bearer.pdcp.holds(pdcp), Refusal::NumberTooLarge)?;
+        let size = judged_size(size)?;
         refuse_if(!self.is_in_order(pdcp), Refusal::PdcpOrder)?;
         refuse_if(self.entries.is_full(), Refusal::LedgerFull)?;
 
@@ -93,6 +101,7 @@ impl Ledger {
         self.entries.push(Entry {
             number,
             pdcp,
+            size,
             fate: Fate::Waiting,
         });
         self.next = self.bearer.numbers().step(number, 1);
@@ -171,6 +180,16 @@ impl Ledger {
     #[must_use]
     pub const fn minimum(&self) -> u32 {
         self.minimum
+    }
+
+    /// How many octets the secondary still wants: the desired size of the last
+    /// status less the sizes of all entries that wait, and 0 if they are more,
+    /// or before any status.
+    #[must_use]
+    pub fn room(&self) -> u32 {
+        // 512 of the largest fit.
+        let sizes = self.waiting().map(|(_, entry)| u32::from(entry.size));
+        self.desired.saturating_sub(sizes.sum())
     }
 
     /// The entries, in sending order.
@@ -278,6 +297,13 @@ impl Ledger {
         }
         lost
     }
+}
+
+/// A PDU's size, if it is one that a PDU may have.
+fn judged_size(octets: u32) -> Answer<u16> {
+    let allowed = (1..=LARGEST_SIZE).contains(&octets);
+    refuse_if(!allowed, Refusal::SizeOutside)?;
+    Ok(octets as u16)
 }
 
 /// A set of places in the ledger, so that a frame is judged whole before the

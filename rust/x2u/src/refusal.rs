@@ -58,11 +58,13 @@ pub enum Refusal {
     LedgerFull = 36,
     /// Nothing to take.
     NothingToTake = 38,
+    /// The PDU's size is 0 or above 16,384 octets.
+    SizeOutside = 39,
 }
 
 impl Refusal {
     /// Every refusal, in rising order of number.
-    pub const ALL: [Self; 26] = [
+    pub const ALL: [Self; 27] = [
         Self::FrameLength,
         Self::ReservedType,
         Self::FieldsCut,
@@ -89,6 +91,7 @@ impl Refusal {
         Self::PdcpOrder,
         Self::LedgerFull,
         Self::NothingToTake,
+        Self::SizeOutside,
     ];
 
     /// The number on paper.

@@ -7,11 +7,14 @@ use x2u::frame::Range;
 use x2u::ledger::{Entry, Fate, Settled};
 use x2u::{Form, Ledger, Refusal};
 
+/// Of every PDU here, in octets.
+const SIZE: u32 = 1_500;
+
 /// A ledger of L = 12 with packets numbered and counted from 0.
 fn ledger_with(sent: u32) -> Ledger {
     let mut ledger = Ledger::open(12, 0, 0).unwrap();
     for pdcp in 0..sent {
-        assert_eq!(ledger.send(pdcp), Ok(pdcp));
+        assert_eq!(ledger.send(pdcp, SIZE), Ok(pdcp));
     }
     ledger
 }
@@ -149,7 +152,7 @@ fn a_lost_entry_may_share_numbers_with_a_waiting_one() {
     ledger.accept(&status(4_095, &[run(0, 0)])).unwrap();
     // Both circles roll over while number 0 stays in the ledger, lost.
     for sent in 1..=65_536_u32 {
-        ledger.send(sent % 4_096).unwrap();
+        ledger.send(sent % 4_096, SIZE).unwrap();
         if sent % 500 == 0 {
             ledger.accept(&status(sent % 4_096, &[])).unwrap();
         }
@@ -171,19 +174,19 @@ fn a_lost_entry_may_share_numbers_with_a_waiting_one() {
 #[test]
 fn the_ledger_fills_to_512() {
     let mut ledger = ledger_with(512);
-    assert_eq!(ledger.send(511), Err(Refusal::PdcpOrder));
-    assert_eq!(ledger.send(512), Err(Refusal::LedgerFull));
-    assert_eq!(ledger.send(4_096), Err(Refusal::NumberTooLarge));
+    assert_eq!(ledger.send(511, SIZE), Err(Refusal::PdcpOrder));
+    assert_eq!(ledger.send(512, SIZE), Err(Refusal::LedgerFull));
+    assert_eq!(ledger.send(4_096, SIZE), Err(Refusal::NumberTooLarge));
     // Lost entries count too, until they are taken.
     ledger.accept(&status(4_095, &[run(0, 511)])).unwrap();
-    assert_eq!(ledger.send(512), Err(Refusal::LedgerFull));
+    assert_eq!(ledger.send(512, SIZE), Err(Refusal::LedgerFull));
     ledger.take().unwrap();
-    assert_eq!(ledger.send(512), Ok(512));
+    assert_eq!(ledger.send(512, SIZE), Ok(512));
 }
 
 /// The PDCP numbers, at L = 12, that a send would be accepted of.
 fn allowed(ledger: &Ledger) -> Vec<u32> {
-    let would = |pdcp: &u32| match ledger.clone().send(*pdcp) {
+    let would = |pdcp: &u32| match ledger.clone().send(*pdcp, SIZE) {
         Ok(_) => true,
         Err(refusal) => {
             assert_eq!(refusal, Refusal::PdcpOrder);
@@ -219,7 +222,7 @@ fn with_none_waiting_any_number_but_h_is_allowed() {
 fn with_one_waiting_less_than_half_the_circle_is_allowed() {
     for first in [0, 2_047, 2_048, 4_094] {
         let mut ledger = ledger_with(0);
-        ledger.send(first).unwrap();
+        ledger.send(first, SIZE).unwrap();
         let mut ahead: Vec<u32> = (1..2_048).map(|ahead| (first + ahead) % 4_096).collect();
         ahead.retain(|&pdcp| pdcp != 4_095);
         ahead.sort_unstable();
@@ -261,11 +264,11 @@ fn a_bearer_may_rest() {
         assert_eq!(ledger.accept(&status(pdcp, &[])), settled(1, 0));
         if rest % 4_096 == 0 {
             // H itself, which that status might repeat.
-            assert_eq!(ledger.send(pdcp), Err(Refusal::PdcpOrder));
+            assert_eq!(ledger.send(pdcp, SIZE), Err(Refusal::PdcpOrder));
             pdcp += 1;
         }
         pdcp = (pdcp + rest) % 4_096;
-        assert_eq!(ledger.send(pdcp), Ok(number));
+        assert_eq!(ledger.send(pdcp, SIZE), Ok(number));
     }
 }
 
@@ -274,10 +277,10 @@ fn a_bearer_may_rest() {
 fn a_pdu_may_be_sent_again() {
     let mut ledger = ledger_with(3);
     ledger.accept(&status(2, &[run(1, 1)])).unwrap();
-    assert_eq!(ledger.send(1), Ok(3));
-    assert_eq!(ledger.send(0), Err(Refusal::PdcpOrder));
+    assert_eq!(ledger.send(1, SIZE), Ok(3));
+    assert_eq!(ledger.send(0, SIZE), Err(Refusal::PdcpOrder));
     assert_eq!(ledger.accept(&status(1, &[])), settled(1, 0));
-    assert_eq!(ledger.send(0), Ok(4));
+    assert_eq!(ledger.send(0, SIZE), Ok(4));
     assert_eq!(numbers(&ledger), [1, 4]);
     assert_eq!(
         ledger.take().map(|entry| (entry.number, entry.pdcp)),
@@ -297,12 +300,12 @@ fn order_is_judged_after_the_number_and_before_the_room() {
         (2_048, Refusal::PdcpOrder),
         (2_047, Refusal::LedgerFull),
     ] {
-        assert_eq!(ledger.send(pdcp), Err(refusal));
+        assert_eq!(ledger.send(pdcp, SIZE), Err(refusal));
     }
     // All lost: none waits, but there is no room either.
     ledger.accept(&status(4_095, &[run(0, 511)])).unwrap();
-    assert_eq!(ledger.send(4_095), Err(Refusal::PdcpOrder));
-    assert_eq!(ledger.send(2_048), Err(Refusal::LedgerFull));
+    assert_eq!(ledger.send(4_095, SIZE), Err(Refusal::PdcpOrder));
+    assert_eq!(ledger.send(2_048, SIZE), Err(Refusal::LedgerFull));
 }
 
 #[test]
@@ -338,7 +341,7 @@ fn a_closed_ledger_only_gives_out() {
     };
     assert_eq!(ledger.accept(&last), Ok(answer));
     refused(&mut ledger, &[], Refusal::Closed);
-    assert_eq!(ledger.send(u32::MAX), Err(Refusal::Closed));
+    assert_eq!(ledger.send(u32::MAX, SIZE), Err(Refusal::Closed));
     assert_eq!(
         ledger.take().map(|e| (e.number, e.fate)),
         Ok((1, Fate::Waiting))

@@ -1,4 +1,4 @@
-//! Document 01's bench sheet as requests One and Three left it, line by line.
+//! Document 01's bench sheet as requests One, Three and Four left it, line by line.
 
 mod common;
 
@@ -128,7 +128,7 @@ fn status_with_both_confirmed() {
 fn send_at_half_the_pdcp_circle() {
     for pdcp in [2_046, 2_047] {
         let mut ledger = Ledger::open(12, 77, 0).unwrap();
-        assert_eq!(ledger.send(pdcp), Ok(77));
+        assert_eq!(ledger.send(pdcp, 1), Ok(77));
     }
 }
 

@@ -33,12 +33,13 @@ answer-keeps s t a = record { same = λ e. absurd (contrary refl e) }
 
 -- ---- the master
 
-pub send-keeps : {A : Type 0} (l : G.Ledger A) (p : ℕ) (a : A) → Keeps l (G.send l p a)
-send-keeps l p a =
+pub send-keeps : {A : Type 0} (l : G.Ledger A) (p z : ℕ) (a : A) → Keeps l (G.send l p z a)
+send-keeps l p z a =
     either-keeps l (l .closed) _ _ (refusal-keeps _ l _)
     (either-keeps l (not (ltb p (pdcps (l .bits)))) _ _ (refusal-keeps _ l _)
+    (either-keeps l (not (G.isSize z)) _ _ (refusal-keeps _ l _)
     (either-keeps l (not (G.inOrder l p)) _ _ (refusal-keeps _ l _)
-    (either-keeps l (leb mostEntries (length (l .entries))) _ _ (refusal-keeps _ l _) (answer-keeps l (G.sentState l p a) (l .next)))))
+    (either-keeps l (leb mostEntries (length (l .entries))) _ _ (refusal-keeps _ l _) (answer-keeps l (G.sentState l p z a) (l .next))))))
 
 marked-keeps : {A : Type 0} (l : G.Ledger A) (s : Status) (m : Option (G.Passed A)) → Keeps l (G.acceptMarked l s m)
 marked-keeps l s none = refusal-keeps _ l _

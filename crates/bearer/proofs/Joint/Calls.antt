@@ -36,14 +36,14 @@ sent-on sent p r = record {
   lost-is = sym (append-nil (r .lost));
 }
 
-joint-sends : {L first : ℕ} {w : World} {p : ℕ} → isLength L ≡ true → Joint L first w → Sends L (w .ledger) p
-    → Joint L first (w with-ledger G.sentState (w .ledger) p (length (w .sent)) with-sent (w .sent ++ (p ∷ [])))
-joint-sends {L} {first} {w} {p} ok j s =
+joint-sends : {L first : ℕ} {w : World} {p z : ℕ} → isLength L ≡ true → Joint L first w → Sends L (w .ledger) p z
+    → Joint L first (w with-ledger G.sentState (w .ledger) p z (length (w .sent)) with-sent (w .sent ++ (p ∷ [])))
+joint-sends {L} {first} {w} {p} {z} ok j s =
     let n = length (w .sent) in
     let x = j .second in
     let t = j .there in
     let on = sent-on (w .sent) p (w .fates) in
-    let new : G.Entry ℕ = G.newEntry (w .ledger .next) p n in
+    let new : G.Entry ℕ = G.newEntry (w .ledger .next) p z n in
     let ws = waitingOf (w .ledger .entries) in
     let more = length-append (w .sent) (p ∷ []) in
     let fresh : isIn n (take (t .told) (w .fates .lost)) ≡ false =
@@ -73,11 +73,11 @@ joint-sends {L} {first} {w} {p} ok j s =
         cut = t .cut;
         master = master-sends ok (t .master) s;
         waiting = record {
-          only = λ c i h. ⊎-elim (t .waiting .only (s .open-end) i) (λ z. rw z fresh) (in-last i ws n (rw (waiting-append (w .ledger .entries) (new ∷ [])) at h));
+          only = λ c i h. ⊎-elim (t .waiting .only (s .open-end) i) (λ e. rw e fresh) (in-last i ws n (rw (waiting-append (w .ledger .entries) (new ∷ [])) at h));
           all = λ c i h k f.
               rw (waiting-append (w .ledger .entries) (new ∷ []))
               (⊎-elim (λ (q : i < n). in-left i ws (n ∷ []) (t .waiting .all (s .open-end) i h q f))
-              (λ (q : n ≤ i). let z : i ≡ n = omega (arith, more) in rw z (in-right n ws (n ∷ []) (in-head n [])))
+              (λ (q : n ≤ i). let e : i ≡ n = omega (arith, more) in rw e (in-right n ws (n ∷ []) (in-head n [])))
               (order i n));
         };
         were-freed = t .were-freed;
@@ -92,13 +92,13 @@ joint-sends {L} {first} {w} {p} ok j s =
 abbrev sentAs : World → ℕ → Bool → G.Ledger ℕ → World
 sentAs w p b l = w with-ledger l with-sent (if b then w .sent ++ (p ∷ []) else w .sent)
 
-pub joint-send : {L first : ℕ} {w : World} → isLength L ≡ true → Joint L first w → (p : ℕ) → Joint L first (afterSend w p (G.send (w .ledger) p (length (w .sent))))
-joint-send {L} {first} {w} ok j p =
-    let a = G.send (w .ledger) p (length (w .sent)) in
+pub joint-send : {L first : ℕ} {w : World} → isLength L ≡ true → Joint L first w → (p z : ℕ) → Joint L first (afterSend w p (G.send (w .ledger) p z (length (w .sent))))
+joint-send {L} {first} {w} ok j p z =
+    let a = G.send (w .ledger) p z (length (w .sent)) in
     let by : (b : Bool) (l : G.Ledger ℕ) → isDone (a .answer) ≡ b → a .state ≡ l → Joint L first (sentAs w p b l) → Joint L first (afterSend w p a) =
     λ b l d e x. subst (Joint L first) (sym (ap (λ (c : Bool). sentAs w p c (a .state)) d ∙ ap (sentAs w p b) e)) x in
     ⊎-elim (λ r. by false _ (r .0) (r .1) j) (λ r. by true _ (r .0) (r .1) (joint-sends ok j (r .2)))
-    (send-cases L p (length (w .sent)) (w .ledger) (j .there .master .bits-are))
+    (send-cases L p z (length (w .sent)) (w .ledger) (j .there .master .bits-are))
 
 -- ---- octets that the master refuses
 

@@ -74,7 +74,7 @@ module _ (L first f : ℕ) where
 -- ---- every allowed event keeps both ends joined
 
 joint-step : {L first : ℕ} {w : World} → isLength L ≡ true → Joint L first w → (e : Event) → Allowed L w e → Joint L first (step L first w e)
-joint-step ok j (send p) h = joint-send ok j p
+joint-step ok j (send p z) h = joint-send ok j p z
 joint-step ok j (copy i) h = joint-copy ok j i (h .0) (h .1)
 joint-step ok j (stray n p) h = joint-stray j n p h
 joint-step ok j expire h = joint-expire ok j

@@ -61,7 +61,7 @@ bears-one {sent = sent} {l} m g h es s f =
 -- ---- entries turned lost
 
 -- what holds of every entry, lost or not, holds of every one after it
-each-turned : (P : Entry ℕ → Type 0) {ns : List ℕ} {es ds : List (Entry ℕ)} → ((e : Entry ℕ) → P e → P (asLost e)) → TurnedLost ns es ds → Each P es → Each P ds
+pub each-turned : (P : Entry ℕ → Type 0) {ns : List ℕ} {es ds : List (Entry ℕ)} → ((e : Entry ℕ) → P e → P (asLost e)) → TurnedLost ns es ds → Each P es → Each P ds
 each-turned P f turned-end a = tt
 each-turned P f (turns e w t) a = (f e (a .0), each-turned P f t (a .1))
 each-turned P f (as-it-was e t) a = (a .0, each-turned P f t (a .1))

@@ -13,7 +13,7 @@ use lib.ListN.{length, take, drop, length-map}
 use Rattle.basics.specs.Basics.{if_then_else_, _or_, alike, refused, isDone}
 use Rattle.basics.specs.Refusals.{Refusal, _when_, Given}
 use Rattle.basics.proofs.Choices.{contrary, and-true, never-done}
-use Rattle.basics.proofs.Refusals.{Says, says-below, says-same, says-at-most, says-holds, says-and, says-not, says-as, says-past, given-of, given-append, refused-alike}
+use Rattle.basics.proofs.Refusals.{Says, says-below, says-same, says-at-most, says-holds, says-and, says-not, says-as, says-past, says-more, says-not-both, given-of, given-append, refused-alike}
 use Rattle.circle.specs.Lengths.{isLong, modulusOf, pdcps}
 use Rattle.frame_layout.specs.Frames.{Range, Status, width, statusType, typeIn, inForm, listAt, countIn, statusIn, Reading, data-of, status-of, refuse, readFrame}
 use Rattle.frame_layout.specs.Refusals.{readRefusals, answered}
@@ -22,11 +22,11 @@ use Rattle.frame_layout.proofs.Forms.{types-apart}
 use Rattle.frame_layout.proofs.Octets.{rangesAt-inForm}
 use Rattle.frame_layout.proofs.Read.{Read, as-data, as-status, frame-read}
 use Rattle.frame_layout.proofs.Refusals.{reads-given}
-use Rattle.bearer.specs.Bearer.{mostEntries}
-use Rattle.bearer.specs.Ledger.{Entry, Ledger, waits, follows, inOrder, send, markLost, acceptReading, accept, takeAt, takeFrom, takeOldest}
+use Rattle.bearer.specs.Bearer.{mostEntries, mostSize}
+use Rattle.bearer.specs.Ledger.{Entry, Ledger, waits, follows, inOrder, isSize, send, markLost, acceptReading, accept, takeAt, takeFrom, takeOldest}
 use Rattle.bearer.specs.Packets.{packets, Each}
 use Rattle.bearer.specs.LedgerMeaning.{Books, LedgerReached, waitingIn, lostIn}
-use Rattle.bearer.specs.Refusals.{FollowsOldest, OutOfOrder, sendRefusals, acceptRefusals, takeRefusals, MasterGiven}
+use Rattle.bearer.specs.Refusals.{NoSize, FollowsOldest, OutOfOrder, sendRefusals, acceptRefusals, takeRefusals, MasterGiven}
 use Rattle.bearer.proofs.Lists.Mapped.{each-so, each-of-all}
 use Rattle.bearer.proofs.Lists.Lengths.{half-is}
 use Rattle.bearer.proofs.Master.Marks.{waitingOf}
@@ -58,6 +58,10 @@ module _ {L first f : ℕ} {l : Ledger ℕ} {b : Books} (x : LedgerReached L fir
   number-says : (p : ℕ) → Says (not (ltb p (pdcps (l .bits)))) (2 ^ L ≤ p)
   number-says p = rw (sound x .master .bits-are) (says-past p (pdcps L))
 
+  -- 39
+  size-says : (z : ℕ) → Says (not (isSize z)) (NoSize z)
+  size-says z = says-not-both (leb 1 z) (leb z mostSize) (says-more 1 z) (says-more z mostSize)
+
   -- 35
   order-says : (p : ℕ) → Says (not (inOrder l p)) (OutOfOrder L f b (waitingOf (l .entries)) p)
   order-says p =
@@ -82,7 +86,7 @@ module _ {L first f : ℕ} {l : Ledger ℕ} {b : Books} (x : LedgerReached L fir
 
   -- ---- sends
 
-  module _ (p : ℕ) where
+  module _ (p z : ℕ) where
     -- the order, from each number on
     abbrev from36 : List Refusal
     from36 = (36 when (512 ≤ length (waitingOf (l .entries)) + length (packets (lostIn (l .entries))))) ∷ []
@@ -90,14 +94,18 @@ module _ {L first f : ℕ} {l : Ledger ℕ} {b : Books} (x : LedgerReached L fir
     abbrev from35 : List Refusal
     from35 = (35 when OutOfOrder L f b (waitingOf (l .entries)) p) ∷ from36
 
-    abbrev from10 : List Refusal
-    from10 = (10 when (2 ^ L ≤ p)) ∷ from35
+    abbrev from39 : List Refusal
+    from39 = (39 when NoSize z) ∷ from35
 
-    -- 9, 10, 35, 36, or accepted
-    send-given : Given (sendRefusals L f b (waitingOf (l .entries)) (packets (lostIn (l .entries))) p) (send l p (length (b .sent)) .answer)
+    abbrev from10 : List Refusal
+    from10 = (10 when (2 ^ L ≤ p)) ∷ from39
+
+    -- 9, 10, 39, 35, 36, or accepted
+    send-given : Given (sendRefusals L f b (waitingOf (l .entries)) (packets (lostIn (l .entries))) p z) (send l p z (length (b .sent)) .answer)
     send-given =
         given-of answerOf (l .closed) 9 from10 _ _ closed-says refl λ _.
-        given-of answerOf (not (ltb p (pdcps (l .bits)))) 10 from35 _ _ (number-says p) refl λ _.
+        given-of answerOf (not (ltb p (pdcps (l .bits)))) 10 from39 _ _ (number-says p) refl λ _.
+        given-of answerOf (not (isSize z)) 39 from35 _ _ (size-says z) refl λ _.
         given-of answerOf (not (inOrder l p)) 35 from36 _ _ (order-says p) refl λ _.
         given-of answerOf (leb mostEntries (length (l .entries))) 36 [] _ _ full-says refl λ _.
         refl

@@ -5,7 +5,7 @@ use mathlib.Core.Path.{_≡_, refl, sym, _∙_, ap}
 use mathlib.Core.Bool.{Bool, true, false, not}
 use mathlib.Core.List.{List, [], _∷_, _++_, map}
 use mathlib.Core.Option.{Option, none, some}
-use Prim.Native.Nat.{ℕ, suc, _+_}
+use Prim.Native.Nat.{ℕ, suc, _+_, _-_}
 use lib.Dec.{ltb, leb, eqb}
 use lib.ListN.{length, take, drop, length-map}
 use Rattle.basics.specs.Basics.{if_then_else_, _and_, _or_, alike}
@@ -13,13 +13,13 @@ use Rattle.basics.proofs.Choices.{choice}
 use Rattle.basics.proofs.Lists.{map-take, map-drop}
 use Rattle.circle.specs.Lengths.{isLong, pdcps}
 use Rattle.frame_layout.specs.Frames.{Range, Status, Reading, data-of, status-of, refuse, readFrame}
-use Rattle.bearer.specs.Bearer.{After, answering, mostEntries}
-use Rattle.bearer.specs.Ledger.{Entry, Ledger, _with-highest_, _with-closed_, _with-sizes-of_, _with-oldest_, _with-entries_, waitingAt, holding, follows, placeWithout, newEntry, countsOf, acceptedState, takenOf, Passed, waits, bears, noteIn, afterNumber, markLost, waitsFor, kept, counted, freeThrough, freed, inOrder, send, sentState, acceptMarked, acceptReading, accept, takeAt, takeFrom, takeOldest}
+use Rattle.bearer.specs.Bearer.{After, refusing, answering, mostEntries}
+use Rattle.bearer.specs.Ledger.{Entry, Ledger, _with-highest_, _with-closed_, _with-sizes-of_, _with-oldest_, _with-entries_, waitingAt, holding, follows, placeWithout, newEntry, countsOf, acceptedState, takenOf, Passed, waits, bears, noteIn, afterNumber, markLost, waitsFor, kept, counted, freeThrough, freed, inOrder, isSize, send, sentState, acceptMarked, acceptReading, accept, takeAt, takeFrom, takeOldest, waitingSizes, room}
 
 module _ {A B : Type 0} (f : A → B) where
   -- an entry, a ledger, a pass and a call's outcome under other labels
   abbrev pub entryAs : Entry A → Entry B
-  entryAs e = record { number = e .number; pdcp = e .pdcp; fate = e .fate; label = f (e .label) }
+  entryAs e = record { number = e .number; pdcp = e .pdcp; size = e .size; fate = e .fate; label = f (e .label) }
 
   abbrev pub entriesAs : List (Entry A) → List (Entry B)
   entriesAs es = map entryAs es
@@ -54,13 +54,14 @@ module _ {A B : Type 0} (f : A → B) where
       ap (λ (b : Bool). not (eqb p (l .highest)) and b)
       (ap (follows (relabelled l) p) (map-drop entryAs (l .oldest) (l .entries)) ∙ follows-as l p (drop (l .oldest) (l .entries)))
 
-  pub send-as : (l : Ledger A) (p : ℕ) (a : A) → send (relabelled l) p (f a) ≡ outcomeAs (send l p a)
-  send-as l p a =
+  pub send-as : (l : Ledger A) (p z : ℕ) (a : A) → send (relabelled l) p z (f a) ≡ outcomeAs (send l p z a)
+  send-as l p z a =
+      let sent = ap (λ (es : List (Entry B)). answering (l .next) (sentState l p z a with-entries es)) (sym (entries-append (l .entries) (newEntry (l .next) p z a ∷ []))) in
+      let stored = choice outcomeAs {u = refusing 36 l} {v = answering (l .next) (sentState l p z a)} (ap (leb mostEntries) (length-map (l .entries) entryAs)) refl sent in
+      let ordered = choice outcomeAs {u = refusing 35 l} (ap not (order-as l p)) refl stored in
       choice outcomeAs {t = l .closed} refl refl
       (choice outcomeAs {t = not (ltb p (pdcps (l .bits)))} refl refl
-      (choice outcomeAs (ap not (order-as l p)) refl
-      (choice outcomeAs (ap (leb mostEntries) (length-map (l .entries) entryAs)) refl
-      (ap (λ (es : List (Entry B)). answering (l .next) (sentState l p a with-entries es)) (sym (entries-append (l .entries) (newEntry (l .next) p a ∷ [])))))))
+      (choice outcomeAs {t = not (isSize z)} refl refl ordered))
 
   -- ---- where the oldest waiting entry stands
 
@@ -139,3 +140,12 @@ module _ {A B : Type 0} (f : A → B) where
       ∙ ap (λ (xs : List (Entry B)). takeFrom (relabelled l) xs (drop n (entriesAs (l .entries)))) (map-take entryAs n (l .entries))
       ∙ ap (takeFrom (relabelled l) (entriesAs (take n (l .entries)))) (map-drop entryAs n (l .entries))
       ∙ take-from-as l (take n (l .entries)) (drop n (l .entries))
+
+  -- ---- room
+
+  waiting-sizes-as : (es : List (Entry A)) → waitingSizes (entriesAs es) ≡ waitingSizes es
+  waiting-sizes-as [] = refl
+  waiting-sizes-as (e ∷ es) = ap (λ (n : ℕ). if waits e then e .size + n else n) (waiting-sizes-as es)
+
+  pub room-as : (l : Ledger A) → room (relabelled l) ≡ room l
+  room-as l = ap (λ (n : ℕ). l .desired - n) (waiting-sizes-as (l .entries))

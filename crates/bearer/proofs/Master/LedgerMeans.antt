@@ -16,7 +16,7 @@ use Rattle.circle.specs.Circle.{forward}
 use Rattle.circle.specs.Lengths.{isLength, modulusOf, pdcps, pdcpBefore}
 use Rattle.frame_layout.specs.Frames.{Status, status-of, readFrame}
 use Rattle.bearer.specs.Bearer.{mostEntries}
-use Rattle.bearer.specs.Ledger.{newEntry, Entry, Ledger, holding, Accepted, Taken, takenOf, waits, freshLedger, openLedger, inOrder, send, sentState, accept, takeFrom, takeOldest, takeAt}
+use Rattle.bearer.specs.Ledger.{newEntry, Entry, Ledger, holding, Accepted, Taken, takenOf, waits, freshLedger, openLedger, isSize, inOrder, send, sentState, accept, takeFrom, takeOldest, takeAt}
 use Rattle.bearer.specs.Packets.{lastOf, packets, Rising, In, Each}
 use Rattle.bearer.specs.LedgerMeaning.{Books, begun, sending, accepting, taking, lastSent, LedgerReached, opened as opens, sends, accepts, takes, waitingIn, lostIn, oldestPdcp, StatusMeans, TakenFrom, this-one, passes-over, LedgersMean, SendsMean, TakesMean, StatusesMean}
 use Rattle.bearer.proofs.Lists.Mapped.{each-so, each-both}
@@ -28,10 +28,11 @@ use Rattle.bearer.proofs.Master.Marks.{waitingOf}
 use Rattle.bearer.proofs.Master.Pdcps.{pdcpOf, few, one-pdcp}
 use Rattle.bearer.proofs.Master.Frees.{each-waiting, waiting-rising}
 use Rattle.bearer.proofs.Master.Oldest.{behind-lost}
-use Rattle.bearer.proofs.Master.Sound.{waiting-sent, Master, Sends, send-cases, master-sends}
+use Rattle.bearer.proofs.Master.Sound.{waiting-sent, Master, Sends, send-cases, master-sends, each-without}
 use Rattle.bearer.proofs.Master.Takes.{Left, take-cases, master-left}
 use Rattle.bearer.proofs.Master.Turned.{Turns}
 use Rattle.bearer.proofs.Master.Applied.{master-opened, master-turns, length-turned}
+use Rattle.bearer.proofs.Master.Sizes.{SizedAs, sized-sends, sized-turned, sized-freed, sizes-of-waiting, sizes-few, room-by}
 use Rattle.bearer.proofs.Master.AcceptsAny.{Passes, passes, freed-count, Frees, frees-by}
 
 -- ---- every reached ledger is sound
@@ -44,12 +45,15 @@ pub record Figures (L f : ℕ) (l : Ledger ℕ) (b : Books) : Type 0 where
   pub minimum-is : l .minimum ≡ b .minimum
   pub closed-is : l .closed ≡ b .final
 
--- a sound ledger with these figures, and the sum
+-- a sound ledger with these figures, the sizes of its packets, and the sum; before any status nothing is desired
 pub record Sound (L first f : ℕ) (l : Ledger ℕ) (b : Books) : Type 0 where
   pub ok : isLength L ≡ true
   pub cut : ℕ
   pub master : Master L first cut (b .sent) l
   pub figures : Figures L f l b
+  pub unheard : b .heard ≡ false → b .desired ≡ 0
+  pub as-many : length (b .sizes) ≡ length (b .sent)
+  pub sized : Each (SizedAs (b .sizes)) (l .entries)
   pub sum : length (l .entries) + b .freed + b .taken ≡ length (b .sent)
 
 module _ {L first f : ℕ} {l : Ledger ℕ} {b : Books} (x : Sound L first f l b) (o : List ℕ) (a : Accepted) (p : Passes l o a) where
@@ -89,6 +93,9 @@ module _ {L first f : ℕ} {l : Ledger ℕ} {b : Books} (x : Sound L first f l b
     cut = freed-so .cut;
     master = rw (p .state-is) (freed-so .master);
     figures = rw (p .state-is) (record { highest-is = refl; last-is = x .figures .last-is; desired-is = refl; minimum-is = refl; closed-is = refl });
+    unheard = λ e. absurd (contrary refl e);
+    as-many = x .as-many;
+    sized = sized-freed (b .sizes) (status-means .are-freed) (sized-turned (b .sizes) (status-means .become-lost) (x .sized));
     sum = let h = x .sum in omega (arith, left-count, h);
   })
     where
@@ -102,12 +109,12 @@ last-behind q (r ∷ qs) p = last-behind r qs p
 
 module _ {L first f : ℕ} {l : Ledger ℕ} {b : Books} (x : Sound L first f l b) where
   -- an accepted send is one packet more, and one entry
-  send-step : (p n : ℕ) → send l p (length (b .sent)) .answer ≡ done n → Sound L first f (send l p (length (b .sent)) .state) (sending b p)
-  send-step p n e =
+  send-step : (p z n : ℕ) → send l p z (length (b .sent)) .answer ≡ done n → Sound L first f (send l p z (length (b .sent)) .state) (sending b p z)
+  send-step p z n e =
       ⊎-elim (λ r. absurd (contrary (ap isDone e) (r .0))) (λ r. rw (r .1) (goes-out (r .2)))
-      (send-cases L p (length (b .sent)) l (x .master .bits-are))
+      (send-cases L p z (length (b .sent)) l (x .master .bits-are))
     where
-      goes-out : Sends L l p → Sound L first f (sentState l p (length (b .sent))) (sending b p)
+      goes-out : Sends L l p z → Sound L first f (sentState l p z (length (b .sent))) (sending b p z)
       goes-out s =
           let g = x .figures in record {
             ok = x .ok;
@@ -120,7 +127,10 @@ module _ {L first f : ℕ} {l : Ledger ℕ} {b : Books} (x : Sound L first f l b
               minimum-is = g .minimum-is;
               closed-is = g .closed-is;
             };
-            sum = let h = x .sum in omega (arith, h, length-append (l .entries) (newEntry (l .next) p (length (b .sent)) ∷ []), length-append (b .sent) (p ∷ []));
+            unheard = x .unheard;
+            as-many = let h = x .as-many in omega (arith, h, length-append (b .sent) (p ∷ []), length-append (b .sizes) (z ∷ []));
+            sized = rw (← x .as-many) (sized-sends (b .sizes) (l .entries) (l .next) p z (s .sized) (x .sized));
+            sum = let h = x .sum in omega (arith, h, length-append (l .entries) (newEntry (l .next) p z (length (b .sent)) ∷ []), length-append (b .sent) (p ∷ []));
           }
 
   -- an accepted take is one entry less
@@ -134,6 +144,9 @@ module _ {L first f : ℕ} {l : Ledger ℕ} {b : Books} (x : Sound L first f l b
         cut = x .cut;
         master = master-left (x .master) left;
         figures = rw (left .are) (same-figures _ (left .front ++ left .back));
+        unheard = x .unheard;
+        as-many = x .as-many;
+        sized = rw (left .are) (each-without (left .front) (left .gone) (left .back) _ (rw (left .were) at (x .sized)));
         sum = let h = x .sum in omega (arith, h, less, whole);
       }
     where
@@ -158,12 +171,15 @@ open-step L first f l e =
       cut = 0;
       master = master-opened L first f (o .ok) (o .small);
       figures = record { highest-is = refl; last-is = refl; desired-is = refl; minimum-is = refl; closed-is = refl };
+      unheard = λ e. refl;
+      as-many = refl;
+      sized = tt;
       sum = refl;
     })
 
 pub sound : {L first f : ℕ} {l : Ledger ℕ} {b : Books} → LedgerReached L first f l b → Sound L first f l b
 sound {L} {first} {f} (opens {l = l} e) = open-step L first f l e
-sound (sends p n x e) = send-step (sound x) p n e
+sound (sends p z n x e) = send-step (sound x) p z n e
 sound (accepts {l = l} o s a x q e) = accept-step (sound x) o a (passes l o a e) s q
 sound (takes t x e) = take-step (sound x) t e
 
@@ -256,11 +272,15 @@ ledgers-mean L first f l b x =
       desired-is = g .desired-is;
       minimum-is = g .minimum-is;
       closed-is = g .closed-is;
+      room-is = room-by l b (g .desired-is) (s .unheard) (s .sized);
       sum = let h = s .sum in omega (arith, h, counts-sum (l .entries));
       in-order = e .rising;
       were-sent = each-so (l .entries) (λ d k. k .was-sent) (e .sent-as);
       numbered = each-so (l .entries) (λ d k. k .numbered) (e .sent-as);
       pdcps-are = each-so (l .entries) (λ d k. k .pdcp-is) (e .sent-as);
+      sizes-are = each-so (l .entries) (λ d k. k .size-is) (s .sized);
+      sizes-within = each-so (l .entries) (λ d k. k .within) (s .sized);
+      octets-within = let n = sizes-few (b .sizes) (l .entries) (s .sized) in let k = e .most in let q = sizes-of-waiting b (l .entries) (s .sized) in omega (arith, n, k, q);
       next-is = m .next-is;
       oldest-is = m .oldest-is ∙ behind-lost (l .entries);
       pdcps-rise = seen .0;
@@ -281,17 +301,18 @@ ledgers-mean L first f l b x =
 -- ---- what sends and takes answer
 
 -- a send that is accepted gives out the ledger's next number, and leaves what a send leaves
-given-out : (l : Ledger ℕ) (p a n : ℕ) → send l p a .answer ≡ done n → (n ≡ l .next) × (send l p a .state ≡ sentState l p a)
-given-out l p a n e =
+given-out : (l : Ledger ℕ) (p z a n : ℕ) → send l p z a .answer ≡ done n → (n ≡ l .next) × (send l p z a .state ≡ sentState l p z a)
+given-out l p z a n e =
     let shut = not-refused (l .closed) _ l _ n e in
     let bad = not-refused (not (ltb p (pdcps (l .bits)))) _ l _ n (shut .1) in
-    let late = not-refused (not (inOrder l p)) _ l _ n (bad .1) in
+    let odd = not-refused (not (isSize z)) _ l _ n (bad .1) in
+    let late = not-refused (not (inOrder l p)) _ l _ n (odd .1) in
     let full = not-refused (leb mostEntries (length (l .entries))) _ l _ n (late .1) in
-    (sym (done-one (l .next) n (full .1)), same-state (shut .2 ∙ bad .2 ∙ late .2 ∙ full .2))
+    (sym (done-one (l .next) n (full .1)), same-state (shut .2 ∙ bad .2 ∙ odd .2 ∙ late .2 ∙ full .2))
 
 pub sends-mean : SendsMean
-sends-mean L first f l b x p n e =
-    let g = given-out l p (length (b .sent)) n e in
+sends-mean L first f l b x p z n e =
+    let g = given-out l p z (length (b .sent)) n e in
     (g .0 ∙ sound x .master .next-is, rw (g .1, g .0))
 
 -- the entries from the place of a take on: the first of them goes, and those in front of it are passed over

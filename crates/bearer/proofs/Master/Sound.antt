@@ -8,15 +8,15 @@ use mathlib.Core.Logic.{_⊎_, inl, inr, ⊎-elim}
 use Prim.Native.Nat.{ℕ, suc, _+_, _/_, _%_, _≤_, _<_}
 use native.Mathlib.Omega.{arith}
 use native.Mathlib.Nat.{mod-add-mod}
-use borrow.Author.Tests.{ltb-true, leb-false, eq-eqb}
+use borrow.Author.Tests.{ltb-true, leb-true, leb-false, eq-eqb}
 use lib.Dec.{eqb, leb, ltb}
 use lib.ListN.{length, drop, length-append, List·getD-append}
 use lib.Seq.{getD-append-seam}
 use Rattle.basics.specs.Basics.{if_then_else_, isDone}
 use Rattle.basics.proofs.Choices.{tested, contrary, and-true}
 use Rattle.circle.specs.Lengths.{isLength, modulusOf, pdcps}
-use Rattle.bearer.specs.Bearer.{mostEntries}
-use Rattle.bearer.specs.Ledger.{Entry, Ledger, newEntry, waits, waitingAt, pdcpsTo, pastLast, withinHalf, follows, inOrder, send, sentState}
+use Rattle.bearer.specs.Bearer.{mostEntries, mostSize}
+use Rattle.bearer.specs.Ledger.{Entry, Ledger, newEntry, waits, waitingAt, pdcpsTo, pastLast, withinHalf, follows, inOrder, isSize, send, sentState}
 use Rattle.bearer.specs.Packets.{numberOf, packets, Rising, In, Each}
 use Rattle.bearer.specs.LedgerMeaning.{waitingIn}
 use Rattle.bearer.proofs.Lists.Mapped.{each-so, each-append, each-drop}
@@ -139,42 +139,47 @@ waiting-append (e ∷ a) b = go (waits e) (waiting-append a b)
     go false r = r
 
 -- what a send does: a refusal that changes nothing, or the next packet by rule 35
-pub record Sends (L : ℕ) (l : Ledger ℕ) (p : ℕ) : Type 0 where
+pub record Sends (L : ℕ) (l : Ledger ℕ) (p z : ℕ) : Type 0 where
   pub open-end : l .closed ≡ false
   pub fits : p < pdcps L
+  pub sized : (1 ≤ z) × (z ≤ mostSize)
   pub not-highest : p ≡ l .highest → ⊥
   pub follows-oldest : follows l p (drop (l .oldest) (l .entries)) ≡ true
-  pub has-room : length (l .entries) < mostEntries
+  pub not-full : length (l .entries) < mostEntries
 
-pub send-cases : (L p a : ℕ) (l : Ledger ℕ) → l .bits ≡ L
-    → ((isDone (send l p a .answer) ≡ false) × (send l p a .state ≡ l))
-    ⊎ ((isDone (send l p a .answer) ≡ true) × (send l p a .state ≡ sentState l p a) × Sends L l p)
-send-cases L p a l e = go (tested (l .closed)) (tested (ltb p (pdcps (l .bits)))) (tested (inOrder l p)) (tested (leb mostEntries (length (l .entries))))
+pub send-cases : (L p z a : ℕ) (l : Ledger ℕ) → l .bits ≡ L
+    → ((isDone (send l p z a .answer) ≡ false) × (send l p z a .state ≡ l))
+    ⊎ ((isDone (send l p z a .answer) ≡ true) × (send l p z a .state ≡ sentState l p z a) × Sends L l p z)
+send-cases L p z a l e =
+    go (tested (l .closed)) (tested (ltb p (pdcps (l .bits)))) (tested (isSize z)) (tested (inOrder l p)) (tested (leb mostEntries (length (l .entries))))
   where
-    go : (l .closed ≡ true) ⊎ (l .closed ≡ false) → (ltb p (pdcps (l .bits)) ≡ true) ⊎ (ltb p (pdcps (l .bits)) ≡ false)
+    go : (l .closed ≡ true) ⊎ (l .closed ≡ false) → (ltb p (pdcps (l .bits)) ≡ true) ⊎ (ltb p (pdcps (l .bits)) ≡ false) → (isSize z ≡ true) ⊎ (isSize z ≡ false)
         → (inOrder l p ≡ true) ⊎ (inOrder l p ≡ false) → (leb mostEntries (length (l .entries)) ≡ true) ⊎ (leb mostEntries (length (l .entries)) ≡ false)
-        → ((isDone (send l p a .answer) ≡ false) × (send l p a .state ≡ l))
-        ⊎ ((isDone (send l p a .answer) ≡ true) × (send l p a .state ≡ sentState l p a) × Sends L l p)
-    go (inl c) t u s = inl (rw c, rw c)
-    go (inr c) (inr t) u s = inl (rw (c, t), rw (c, t))
-    go (inr c) (inl t) (inr u) s = inl (rw (u, c, t), rw (u, c, t))
-    go (inr c) (inl t) (inl u) (inl s) = inl (rw (u, c, t, s), rw (u, c, t, s))
-    go (inr c) (inl t) (inl u) (inr s) =
+        → ((isDone (send l p z a .answer) ≡ false) × (send l p z a .state ≡ l))
+        ⊎ ((isDone (send l p z a .answer) ≡ true) × (send l p z a .state ≡ sentState l p z a) × Sends L l p z)
+    go (inl c) t i u s = inl (rw c, rw c)
+    go (inr c) (inr t) i u s = inl (rw (c, t), rw (c, t))
+    go (inr c) (inl t) (inr i) u s = inl (rw (i, c, t), rw (i, c, t))
+    go (inr c) (inl t) (inl i) (inr u) s = inl (rw (u, i, c, t), rw (u, i, c, t))
+    go (inr c) (inl t) (inl i) (inl u) (inl s) = inl (rw (u, i, c, t, s), rw (u, i, c, t, s))
+    go (inr c) (inl t) (inl i) (inl u) (inr s) =
         let o = and-true (not (eqb p (l .highest))) (follows l p (drop (l .oldest) (l .entries))) u in
+        let limits = and-true (leb 1 z) (leb z mostSize) i in
         inr (
-          rw (u, c, t, s),
-          rw (u, c, t, s),
+          rw (u, i, c, t, s),
+          rw (u, i, c, t, s),
           record {
             open-end = c;
             fits = rw e at (ltb-true p (pdcps (l .bits)) t);
+            sized = (leb-true 1 z (limits .0), leb-true z mostSize (limits .1));
             not-highest = λ q. contrary (o .0) (ap not (eq-eqb p (l .highest) q));
             follows-oldest = o .1;
-            has-room = leb-false mostEntries (length (l .entries)) s;
+            not-full = leb-false mostEntries (length (l .entries)) s;
           },
         )
 
 -- seen from each packet that waits its PDCP number follows
-follows-all : {L first cut : ℕ} {sent : List ℕ} {l : Ledger ℕ} {p : ℕ} → isLength L ≡ true → (m : Master L first cut sent l) → Sends L l p
+follows-all : {L first cut : ℕ} {sent : List ℕ} {l : Ledger ℕ} {p z : ℕ} → isLength L ≡ true → (m : Master L first cut sent l) → Sends L l p z
     → (x : ℕ) → In x (waitingOf (l .entries)) → Follows (pdcps L) (l .sent) sent p x
 follows-all {L} {first} {cut} {sent} {l} {p} ok m s x h = go (drop (l .oldest) (l .entries)) (waitingOf (l .entries)) (the-oldest m) refl (s .follows-oldest)
   where
@@ -190,12 +195,12 @@ follows-all {L} {first} {cut} {sent} {l} {p} ok m s x h = go (drop (l .oldest) (
         (waiting-sent x (l .entries) (m .entries-are) h .1) seen
 
 -- an accepted send keeps all of it, over one packet more
-pub master-sends : {L first cut : ℕ} {sent : List ℕ} {l : Ledger ℕ} {p : ℕ} → isLength L ≡ true → Master L first cut sent l → Sends L l p
-    → Master L first cut (sent ++ (p ∷ [])) (sentState l p (length sent))
-master-sends {L} {first} {cut} {sent} {l} {p} ok m s =
+pub master-sends : {L first cut : ℕ} {sent : List ℕ} {l : Ledger ℕ} {p z : ℕ} → isLength L ≡ true → Master L first cut sent l → Sends L l p z
+    → Master L first cut (sent ++ (p ∷ [])) (sentState l p z (length sent))
+master-sends {L} {first} {cut} {sent} {l} {p} {z} ok m s =
     let n = length sent in
     let es = l .entries in
-    let new : Entry ℕ = newEntry (l .next) p n in
+    let new : Entry ℕ = newEntry (l .next) p z n in
     let more : length (sent ++ (p ∷ [])) ≡ suc n = length-append sent (p ∷ []) ∙ (let e : n + 1 ≡ suc n = omega arith in e) in
     let a = m .entries-are in
     record {
@@ -219,7 +224,7 @@ master-sends {L} {first} {cut} {sent} {l} {p} ok m s =
             (a .sent-as))
             (record { numbered = m .next-is; pdcp-is = sym (getD-append-seam sent p [] 0); was-sent = omega (arith, more) }, tt);
         from-cut = each-append _ es (new ∷ []) (a .from-cut) ((λ w. m .cut-sent), tt);
-        most = let h = s .has-room in let e = length-append es (new ∷ []) in omega (arith, e, h);
+        most = let h = s .not-full in let e = length-append es (new ∷ []) in omega (arith, e, h);
       };
       ordered =
           rw (waiting-append es (new ∷ []))
@@ -234,7 +239,7 @@ pub entries-fewer : {L first cut cut′ : ℕ} {sent : List ℕ} {es ds : List (
 entries-fewer s rising kept fewer from = record { rising = rising; sent-as = kept _ (s .sent-as); from-cut = from; most = let m = s .most in omega arith }
 
 -- entries without one in their middle
-each-without : {A : Type 0} (a : List A) (x : A) (b : List A) (P : A → Type 0) → Each P (a ++ (x ∷ b)) → Each P (a ++ b)
+pub each-without : {A : Type 0} (a : List A) (x : A) (b : List A) (P : A → Type 0) → Each P (a ++ (x ∷ b)) → Each P (a ++ b)
 each-without [] x b P e = e .1
 each-without (y ∷ a) x b P e = (e .0, each-without a x b P (e .1))
 

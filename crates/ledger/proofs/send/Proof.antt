@@ -4,16 +4,18 @@ use mathlib.Core.Bool.{Bool, true, false}
 use mathlib.Core.Logic.{⊎-elim}
 use Prim.Native.Nat.{_+_, _%_, _<_, min}
 use native.Mathlib.Omega.{arith}
-use borrow.Author.Tests.{not-true, not-false}
+use borrow.Author.Tests.{leb-true, not-true, not-false}
+use lib.Dec.{leb}
 use lib.ListN.{length, getD, length-map}
+use Rattle.basics.proofs.Choices.{and-true}
 use Rattle.circle.specs.Lengths.{modulus, pdcps, lengthIn}
-use Rattle.bearer.specs.Bearer.{mostEntries}
+use Rattle.bearer.specs.Bearer.{mostEntries, mostSize}
 use Rattle.bearer.specs.Ledger.{inOrder}
 use Rattle.ledger_entries.specs.declared.Entry.{Entry}
 use Rattle.ledger_entries.proofs.Entries.{held-length, pushed, slot}
 use Rattle.ledger.specs.View.{ledgerIn}
 use Rattle.ledger.specs.Steps.{followsFrom}
-use Rattle.ledger.proofs.Calls.{order-highest, order-any, order-oldest, send-closed, send-number, send-order, send-full, send-done}
+use Rattle.ledger.proofs.Calls.{Fit, order-highest, order-any, order-oldest, send-closed, send-number, send-size, send-order, send-full, send-done}
 use borrow.Author.Needs.{needs}
 use Rattle.ledger.proofs.send.Statement.{statement}
 use Rattle.ledger.proofs.send.Tie as tie
@@ -24,13 +26,16 @@ use Rattle.ledger.proofs.send.Tie as tie
 abbrev start : tie.After-pdcps → tie.Start
 start k = k .before .before
 
--- the number isn't H
-abbrev bounded : tie.Else3 → tie.After-pdcps
-bounded k = k .before .before .before
+-- the size is tested
+abbrev bounded : tie.Else3 → tie.Else2
+bounded k = k .before .before
 
--- how many entries are held is known
+-- the number isn't H, and how many entries are held is known
+abbrev sized : tie.After-least → tie.Else3
+sized k = k .before .before
+
 abbrev origin : tie.After-least → tie.Start
-origin k = start (bounded (k .before))
+origin k = start (bounded (sized k) .before)
 
 -- ---- what is known there
 
@@ -41,6 +46,14 @@ open-end k = k .before .if1 .left
 -- the PDCP number is below 2^L
 below : (k : tie.Else2) → start (k .before) .args .pdcp < pdcps (lengthIn (start (k .before) .args .l .bits))
 below k = omega (arith, k .before .pdcps .ensures, k .if2 .left)
+
+-- and the size within its limits
+fit : (k : tie.Else3) → Fit (ledgerIn (start (bounded k .before) .args .l)) (start (bounded k .before) .args .pdcp) (start (bounded k .before) .args .size)
+fit k = record {
+  open-end = open-end (bounded k .before);
+  below = below (bounded k);
+  sized = sym (k .before .is-size .ensures) ∙ not-false _ (k .if3 .left);
+}
 
 -- as many entries are held as there are slots for
 slots : (k : tie.After-least) → length (origin k .args .l .entries) ≡ mostEntries
@@ -55,17 +68,18 @@ judged : (k : tie.After-least) → origin k .args .l .oldest < k .least .result 
     ≡ followsFrom (lengthIn (origin k .args .l .bits)) (getD (origin k .args .l .entries) (origin k .args .l .oldest) d .pdcp) (origin k .args .l .sent) (origin k .args .pdcp)
 judged k inside d =
     let a = origin k .args in
-    order-oldest (ledgerIn (a .l)) (a .pdcp) (k .before .if3 .left) (slot (a .l .entries) (a .l .count) (slots k) (a .l .oldest) (omega (arith, k .least .ensures)) d)
+    let oldest = slot (a .l .entries) (a .l .count) (slots k) (a .l .oldest) (omega (arith, k .least .ensures)) d in
+    order-oldest (ledgerIn (a .l)) (a .pdcp) (k .before .if4 .left) oldest
 
 -- the number is in order
-ordered : (k : tie.Joined4) → inOrder (ledgerIn (origin (k .before) .args .l)) (origin (k .before) .args .pdcp) ≡ true
+ordered : (k : tie.Joined5) → inOrder (ledgerIn (origin (k .before) .args .l)) (origin (k .before) .args .pdcp) ≡ true
 ordered k =
     let n = k .before in
     let a = origin n .args in
     ⊎-elim
     (λ w. judged n (w .0 .taken) _ ∙ sym (w .2 .ensures) ∙ not-false _ (w .3 .left))
-    (λ w. order-any (ledgerIn (a .l)) (a .pdcp) (n .before .if3 .left) (omega (arith, count n, n .least .ensures, w .left)))
-    (k .if4 .came)
+    (λ w. order-any (ledgerIn (a .l)) (a .pdcp) (n .before .if4 .left) (omega (arith, count n, n .least .ensures, w .left)))
+    (k .if5 .came)
 
 not-sent-requires : tie.Need-not-sent-requires
 not-sent-requires c κs = search needs
@@ -73,7 +87,7 @@ not-sent-requires c κs = search needs
 returns : tie.Need-returns
 returns c =
     let a = c .before .before .args in
-    c .not-sent .ensures ∙ sym (send-closed (ledgerIn (a .l)) (a .pdcp) (c .before .if1 .taken))
+    c .not-sent .ensures ∙ sym (send-closed (ledgerIn (a .l)) (a .pdcp) (a .size) (c .before .if1 .taken))
 
 pdcps-requires : tie.Need-pdcps-requires
 pdcps-requires c κs = search needs
@@ -85,7 +99,11 @@ returns-2 : tie.Need-returns-2
 returns-2 c =
     let k = c .before .before in
     let a = start k .args in
-    c .not-sent2 .ensures ∙ sym (send-number (ledgerIn (a .l)) (a .pdcp) (open-end k) (omega (arith, k .pdcps .ensures, c .before .if2 .taken)))
+    c .not-sent2 .ensures
+    ∙ sym (send-number (ledgerIn (a .l)) (a .pdcp) (a .size) (open-end k) (omega (arith, k .pdcps .ensures, c .before .if2 .taken)))
+
+is-size-requires : tie.Need-is-size-requires
+is-size-requires c κs = search needs
 
 not-sent-requires-3 : tie.Need-not-sent-requires-3
 not-sent-requires-3 c κs = search needs
@@ -95,7 +113,17 @@ returns-3 c =
     let b = c .before .before .before in
     let k = b .before in
     let a = start k .args in
-    c .not-sent3 .ensures ∙ sym (send-order (ledgerIn (a .l)) (a .pdcp) (open-end k) (below b) (order-highest (ledgerIn (a .l)) (a .pdcp) (c .before .if3 .taken)))
+    let no-size = sym (c .before .before .is-size .ensures) ∙ not-true _ (c .before .if3 .taken) in
+    c .not-sent3 .ensures ∙ sym (send-size (ledgerIn (a .l)) (a .pdcp) (a .size) (open-end k) (below b) no-size)
+
+not-sent-requires-4 : tie.Need-not-sent-requires-4
+not-sent-requires-4 c κs = search needs
+
+returns-4 : tie.Need-returns-4
+returns-4 c =
+    let k = c .before .before in
+    let a = start (bounded k .before) .args in
+    c .not-sent4 .ensures ∙ sym (send-order (fit k) (order-highest (ledgerIn (a .l)) (a .pdcp) (c .before .if4 .taken)))
 
 least-requires : tie.Need-least-requires
 least-requires c κs = search needs
@@ -109,33 +137,38 @@ element-copy-out-e c = search needs
 follows-requires : tie.Need-follows-requires
 follows-requires c κs = search needs
 
-not-sent-requires-4 : tie.Need-not-sent-requires-4
-not-sent-requires-4 c κs = search needs
-
-returns-4 : tie.Need-returns-4
-returns-4 c =
-    let f = c .before .before in
-    let t = f .before .before in
-    let n = t .before in
-    let a = origin n .args in
-    let refused-so = judged n (t .if4 .taken) _ ∙ sym (f .follows .ensures) ∙ not-true _ (c .before .if5 .taken) in
-    c .not-sent4 .ensures ∙ sym (send-order (ledgerIn (a .l)) (a .pdcp) (open-end (bounded (n .before))) (below (n .before .before .before)) refused-so)
-
 not-sent-requires-5 : tie.Need-not-sent-requires-5
 not-sent-requires-5 c κs = search needs
 
 returns-5 : tie.Need-returns-5
 returns-5 c =
+    let f = c .before .before in
+    let t = f .before .before in
+    let n = t .before in
+    let refused-so = judged n (t .if5 .taken) _ ∙ sym (f .follows .ensures) ∙ not-true _ (c .before .if6 .taken) in
+    c .not-sent5 .ensures ∙ sym (send-order (fit (sized n)) refused-so)
+
+not-sent-requires-6 : tie.Need-not-sent-requires-6
+not-sent-requires-6 c κs = search needs
+
+returns-6 : tie.Need-returns-6
+returns-6 c =
     let j = c .before .before in
     let n = j .before in
-    let a = origin n .args in
-    c .not-sent5 .ensures ∙ sym (send-full (ledgerIn (a .l)) (a .pdcp) (open-end (bounded (n .before))) (below (n .before .before .before)) (ordered j) (omega (arith, count n, c .before .if6 .taken)))
+    c .not-sent6 .ensures ∙ sym (send-full (fit (sized n)) (ordered j) (omega (arith, count n, c .before .if7 .taken)))
+
+-- a size within its limits loses nothing
+cast-new-entry : tie.Need-cast-new-entry
+cast-new-entry c =
+    let z = origin (c .before .before) .args .size in
+    let limits = and-true (leb 1 z) (leb z mostSize) (fit (sized (c .before .before)) .sized) in
+    record { fits = omega (arith, leb-true z mostSize (limits .1)) }
 
 new-entry-requires : tie.Need-new-entry-requires
 new-entry-requires c κs = search needs
 
-mul-t11 : tie.Need-mul-t11
-mul-t11 c = search needs
+mul-t14 : tie.Need-mul-t14
+mul-t14 c = search needs
 
 element-set-from-after : tie.Need-element-set-from-after
 element-set-from-after c = search needs
@@ -149,16 +182,16 @@ is-long-requires c κs = search needs
 onward-requires : tie.Need-onward-requires
 onward-requires c κs = search needs
 
-returns-6 : tie.Need-returns-6
-returns-6 c =
+returns-7 : tie.Need-returns-7
+returns-7 c =
     let e = c .before .before in
     let j = e .before .before in
     let n = j .before in
     let a = origin n .args in
-    let free : a .l .count < mostEntries = omega (arith, e .before .if6 .left) in
+    let free : a .l .count < mostEntries = omega (arith, e .before .if7 .left) in
     let next = c .onward .ensures ∙ ap (λ (long : Bool). (a .l .next + 1) % modulus long) (c .before .is-long .ensures) in
     let more = pushed (a .l .entries) (a .l .count) (slots n) free (e .new-entry .result) (e .new-entry .ensures) in
-    send-done (ledgerIn (a .l)) (a .pdcp) (open-end (bounded (n .before))) (below (n .before .before .before)) (ordered j) (omega (arith, count n)) (c .onward .result) next _ more
+    send-done (fit (sized n)) (ordered j) (omega (arith, count n)) (c .onward .result) next _ more
 
 pub send-spec : {M : Type 1} → statement M
 send-spec =
@@ -169,20 +202,24 @@ send-spec =
     pdcps-requires
     not-sent-requires-2
     returns-2
+    is-size-requires
     not-sent-requires-3
     returns-3
+    not-sent-requires-4
+    returns-4
     least-requires
     mul-e
     element-copy-out-e
     follows-requires
-    not-sent-requires-4
-    returns-4
     not-sent-requires-5
     returns-5
+    not-sent-requires-6
+    returns-6
+    cast-new-entry
     new-entry-requires
-    mul-t11
+    mul-t14
     element-set-from-after
     add-after
     is-long-requires
     onward-requires
-    returns-6)
+    returns-7)

@@ -47,16 +47,20 @@ place-without-requires c κs = search needs
 waiting-from-requires : tie.Need-waiting-from-requires
 waiting-from-requires c κs = search needs
 
+cast-t16 : tie.Need-cast-t16
+cast-t16 c = search needs
+
 returns-2 : tie.Need-returns-2
 returns-2 c =
-    let w = c .before .before .before in
+    let p = c .before in
+    let w = p .before .before .before in
     let o = w .before .before in
     let k = o .before in
     let l = start k .args .l in
     let i = k .before .to-take .result in
     let inside : i < min (l .count) mostEntries = omega (arith, k .least .ensures, o .if1 .left) in
     let rest = heldIn (w .without .result .entries) (w .without .result .count) in
-    let place = c .waiting-from .ensures ∙ ap (λ (from : ℕ). from + waitingAt (drop from rest)) (c .before .place-without .ensures) in
+    let place = p .waiting-from .ensures ∙ ap (λ (from : ℕ). from + waitingAt (drop from rest)) (p .before .place-without .ensures) in
     take-one (ledgerIn l) i (k .before .to-take .ensures) _ (slot (l .entries) (l .count) (slots k) i inside _) _ (w .without .ensures) _ place
 
 pub take-spec : {M : Type 1} → statement M
@@ -71,4 +75,5 @@ take-spec =
     without-requires
     place-without-requires
     waiting-from-requires
+    cast-t16
     returns-2)

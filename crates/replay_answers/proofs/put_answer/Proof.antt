@@ -73,6 +73,15 @@ slice-aggregate-put-named-3 c = search needs
 put-named-requires-3 : tie.Need-put-named-requires-3
 put-named-requires-3 c κs = search needs
 
+enum-known-answer-6 : tie.Need-enum-known-answer-6
+enum-known-answer-6 c = search needs
+
+slice-aggregate-put-named-4 : tie.Need-slice-aggregate-put-named-4
+slice-aggregate-put-named-4 c = search needs
+
+put-named-requires-4 : tie.Need-put-named-requires-4
+put-named-requires-4 c κs = search needs
+
 same-length : tie.Need-same-length
 same-length c = search needs
 
@@ -121,6 +130,12 @@ same-length-8 c = search needs
 returns-8 : tie.Need-returns-8
 returns-8 c = rw (c .before .before .before .before .before .before .answer5 .given .1) (puts-most mostFields (omega arith) (puts-parts (c .before .before .put-named3 .ensures)))
 
+same-length-9 : tie.Need-same-length-9
+same-length-9 c = search needs
+
+returns-9 : tie.Need-returns-9
+returns-9 c = rw (c .before .before .before .before .before .before .answer6 .given .1) (puts-most mostFields (omega arith) (puts-parts (c .before .before .put-named4 .ensures)))
+
 pub put-answer-spec : {M : Type 1} → statement M
 put-answer-spec =
     tie.close
@@ -147,6 +162,9 @@ put-answer-spec =
     enum-known-answer-5
     slice-aggregate-put-named-3
     put-named-requires-3
+    enum-known-answer-6
+    slice-aggregate-put-named-4
+    put-named-requires-4
     same-length
     returns
     same-length-2
@@ -162,4 +180,6 @@ put-answer-spec =
     same-length-7
     returns-7
     same-length-8
-    returns-8)
+    returns-8
+    same-length-9
+    returns-9)

@@ -1,4 +1,4 @@
--- `put_taken`: both numbers. Assumes nothing.
+-- `put_taken`: both numbers and the size. Assumes nothing.
 use borrow.Author.Needs.{needs}
 use Rattle.replay_parts.proofs.Putting.{puts-parts, puts-then}
 use Rattle.replay_answers.proofs.put_taken.Statement.{statement}
@@ -13,13 +13,26 @@ put-named-requires c κs = search needs
 put-behind-requires : tie.Need-put-behind-requires
 put-behind-requires c κs = search needs
 
+put-behind-requires-2 : tie.Need-put-behind-requires-2
+put-behind-requires-2 c κs = search needs
+
 same-length : tie.Need-same-length
 same-length c = search needs
 
 returns : tie.Need-returns
-returns c = puts-then (puts-parts (c .before .before .before .before .before .before .put-named .ensures)) (puts-parts (c .before .before .put-behind .ensures))
+returns c =
+    let size = c .before .before in
+    let pdcp = size .before .before .before .before in
+    let number = pdcp .before .before .before .before in
+    puts-then (puts-parts (number .put-named .ensures)) (puts-then (puts-parts (pdcp .put-behind .ensures)) (puts-parts (size .put-behind2 .ensures)))
 
 pub put-taken-spec : {M : Type 1} → statement M
 put-taken-spec =
     tie.close
-    (tie.spec slice-aggregate-put-named put-named-requires put-behind-requires same-length returns)
+    (tie.spec
+    slice-aggregate-put-named
+    put-named-requires
+    put-behind-requires
+    put-behind-requires-2
+    same-length
+    returns)

@@ -6,8 +6,8 @@ use Prim.Native.Nat.{ℕ}
 use Rattle.bearer.specs.Ledger as machine
 use Rattle.ledger.specs.View.{ledgerIn}
 use Rattle.replay_calls.specs.declared.LedgerCall.{LedgerCall}
-use Rattle.replay_answers.specs.declared.Answer.the-variants.{Sent}
-use Rattle.replay_ends.specs.Steps.{Step, freedAnswer, takenAnswer, following, playLedger}
+use Rattle.replay_answers.specs.declared.Answer.the-variants.{Sent, Room}
+use Rattle.replay_ends.specs.Steps.{Step, freedAnswer, takenAnswer, answered, following, playLedger}
 use Rattle.replay_ledger.proofs.step.Statement.{statement}
 use Rattle.replay_ledger.proofs.step.Tie as tie
 
@@ -48,6 +48,18 @@ taken-requires c κs = search needs
 enum-told-2 : tie.Need-enum-told-2
 enum-told-2 c = search needs
 
+room-requires : tie.Need-room-requires
+room-requires c κs = search needs
+
+unchanged-requires : tie.Need-unchanged-requires
+unchanged-requires c κs = search needs
+
+enum-told-3 : tie.Need-enum-told-3
+enum-told-3 c = search needs
+
+unchanged-requires-2 : tie.Need-unchanged-requires-2
+unchanged-requires-2 c κs = search needs
+
 returns : tie.Need-returns
 returns c =
     let sending = c .before .before in
@@ -71,7 +83,18 @@ returns-3 c =
     c .taken .ensures _ ∙ ap (following takenAnswer) (taking .«take» .ensures) ∙ ap (played (known .before .before .before)) (sym (known .enum-told .given .1))
 
 returns-4 : tie.Need-returns-4
-returns-4 c = ap (played (c .before .before .before)) (sym (c .enum-told2 .given .1))
+returns-4 c =
+    let asked = c .before in
+    let known = asked .before in
+    let s = known .before .before .before in
+    c .unchanged .ensures
+    ∙ ap (λ (n : ℕ). answered (ledgerIn (s .args .l)) (Room n)) (asked .room .ensures)
+    ∙ ap (played s) (sym (known .enum-told2 .given .1))
+
+returns-5 : tie.Need-returns-5
+returns-5 c =
+    let known = c .before in
+    c .unchanged2 .ensures ∙ ap (played (known .before .before .before)) (sym (known .enum-told3 .given .1))
 
 pub step-spec : {M : Type 1} → statement M
 step-spec =
@@ -88,7 +111,12 @@ step-spec =
     take-requires
     taken-requires
     enum-told-2
+    room-requires
+    unchanged-requires
+    enum-told-3
+    unchanged-requires-2
     returns
     returns-2
     returns-3
-    returns-4)
+    returns-4
+    returns-5)

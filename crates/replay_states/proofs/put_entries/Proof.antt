@@ -16,7 +16,7 @@ use Rattle.replay_states.proofs.put_entries.Statement.{statement}
 use Rattle.replay_states.proofs.put_entries.Tie as tie
 
 abbrev Inv-loop : tie.InvT-loop
-Inv-loop n out₀ at entries mark₀ at₀ i₀ out mark at' i = (i ≤ n) × (length out ≡ length out₀) × (0 < i → mark ≡ comma) × (length entries ≡ mostEntries) × Joins entryText out₀ at (entriesIn entries i) mark at' out (i * 24)
+Inv-loop n out₀ at entries mark₀ at₀ i₀ out mark at' i = (i ≤ n) × (length out ≡ length out₀) × (0 < i → mark ≡ comma) × (length entries ≡ mostEntries) × Joins entryText out₀ at (entriesIn entries i) mark at' out (i * 35)
 
 abbrev μ-loop : tie.MeasureT-loop
 μ-loop n out₀ at entries mark₀ at₀ i₀ out mark at' i = n - i
@@ -69,7 +69,7 @@ loop-again c =
     let t = turn put .before in
     let l = t .loop in
     let es = start t .args .t1 in
-    (omega arith, search needs, (λ h. refl), search needs, joins-more ((l .i + 1) * 24) (entriesIn es (l .i)) (entriesIn es (l .i + 1)) _ (one-entry es (l .i) (omega arith) _) (omega arith) (l .inv .4) (put .put-entry .ensures))
+    (omega arith, search needs, (λ h. refl), search needs, joins-more ((l .i + 1) * 35) (entriesIn es (l .i)) (entriesIn es (l .i + 1)) _ (one-entry es (l .i) (omega arith) _) (omega arith) (l .inv .4) (put .put-entry .ensures))
 
 same-length-2 : tie.Need-same-length-2 Inv-loop μ-loop
 same-length-2 c = search needs
@@ -79,7 +79,7 @@ returns-2 c =
     let a = start (c .before) .args in
     let l = c .before .loop in
     let all : l .i ≡ a .n = omega arith in
-    joins-all (5 + a .n * 24) (entriesIn (a .t1) (a .n)) (l .inv .2 (omega arith)) (omega arith) (rw all at (l .inv .4))
+    joins-all (5 + a .n * 35) (entriesIn (a .t1) (a .n)) (l .inv .2 (omega arith)) (omega arith) (rw all at (l .inv .4))
 
 pub put-entries-spec : {M : Type 1} → statement M
 put-entries-spec =

@@ -54,7 +54,7 @@ fn tables(rounds: &Path, counts: &str, lister: &str) -> Result<String, String> {
         ("keeper", "The keeper"),
         (
             "ledger",
-            "The ledger: sends, a status, and hostile frames (long form)",
+            "The ledger: sends, room, a status, and hostile frames (long form)",
         ),
     ] {
         text += &format!("### {title}\n\n");

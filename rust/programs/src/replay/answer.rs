@@ -65,8 +65,14 @@ pub fn settled(answer: Answer<Settled>, out: &mut impl Write) -> io::Result<()> 
 pub fn taken(answer: Answer<Entry>, out: &mut impl Write) -> io::Result<()> {
     print(answer, out, |entry, out| {
         out.write_all(b"taken")?;
-        out.fields(&[entry.number, entry.pdcp])
+        out.fields(&[entry.number, entry.pdcp, entry.size.into()])
     })
+}
+
+/// The room, which is never refused.
+pub fn room(octets: u32, out: &mut impl Write) -> io::Result<()> {
+    out.write_all(b"room")?;
+    out.fields(&[octets])
 }
 
 /// The secondary as it stands.
@@ -100,10 +106,11 @@ pub fn ledger(ledger: &Ledger, out: &mut impl Write) -> io::Result<()> {
     out.write_all(b"\t")?;
     out.joined(ledger.entries(), |out, entry| {
         let mark: &[u8] = match entry.fate {
-            Fate::Waiting => b":w",
-            Fate::Lost => b":l",
+            Fate::Waiting => b":w:",
+            Fate::Lost => b":l:",
         };
-        pair(out, entry.number, entry.pdcp, mark)
+        pair(out, entry.number, entry.pdcp, mark)?;
+        out.decimal(entry.size.into())
     })
 }
 

@@ -29,12 +29,14 @@ pub enum Call<'a> {
         /// The length of the buffer lent.
         room: usize,
     },
-    /// Master: PDCP number.
-    Send(u32),
+    /// Master: PDCP number, size.
+    Send([u32; 2]),
     /// Master: a frame's octets.
     Accept(&'a [u8]),
     /// Master.
     Take,
+    /// Master.
+    Room,
     /// Shows the secondary.
     Keeper,
     /// Shows the master.
@@ -51,9 +53,10 @@ impl<'a> Call<'a> {
             b"expire" => Self::Expire,
             b"confirm" => Self::Confirm(number(&mut fields)?),
             b"status" => Self::status(numbers(&mut fields)?)?,
-            b"send" => Self::Send(number(&mut fields)?),
+            b"send" => Self::Send(numbers(&mut fields)?),
             b"accept" => Self::Accept(octets_of(fields.next()?, room)?),
             b"take" => Self::Take,
+            b"room" => Self::Room,
             b"keeper" => Self::Keeper,
             b"ledger" => Self::Ledger,
             _ => return None,
@@ -77,12 +80,13 @@ impl<'a> Call<'a> {
                 let numbers = [desired, minimum, u32::from(is_final), room as u32];
                 print(out, b"status", &numbers)
             }
-            Self::Send(number) => print(out, b"send", &[number]),
+            Self::Send(numbers) => print(out, b"send", &numbers),
             Self::Accept(octets) => {
                 out.write_all(b"accept\t")?;
                 out.hexadecimal(octets)
             }
             Self::Take => print(out, b"take", &[]),
+            Self::Room => print(out, b"room", &[]),
             Self::Keeper => print(out, b"keeper", &[]),
             Self::Ledger => print(out, b"ledger", &[]),
         }
@@ -136,10 +140,11 @@ mod tests {
             Call::Expire,
             Call::Confirm(10),
             status,
-            Call::Send(0),
+            Call::Send([0, u32::MAX]),
             Call::Accept(&[]),
             Call::Accept(&[0xAB, 0x01]),
             Call::Take,
+            Call::Room,
             Call::Keeper,
             Call::Ledger,
         ] {

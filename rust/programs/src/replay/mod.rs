@@ -62,9 +62,10 @@ impl Ends {
                 let built = keeper.status(desired, minimum, is_final, &mut buffer[..room]);
                 answer::frame(built.map(|length| &buffer[..length]), out)
             }
-            Call::Send(pdcp) => answer::sent(ledger.send(pdcp), out),
+            Call::Send([pdcp, size]) => answer::sent(ledger.send(pdcp, size), out),
             Call::Accept(octets) => answer::settled(ledger.accept(octets), out),
             Call::Take => answer::taken(ledger.take(), out),
+            Call::Room => answer::room(ledger.room(), out),
             Call::Keeper => answer::keeper(keeper, out),
             Call::Ledger => answer::ledger(ledger, out),
         }

@@ -1,6 +1,7 @@
 //! Runs every property on the product.
 
 use model::Opening;
+use model::demand::Tally;
 use property::bearer::{Bearer, Step, openings, openings_of, steps};
 use property::scripts::{Aim, Script};
 use property::suite::{Suite, Verdict};
@@ -10,6 +11,7 @@ use proptest::collection::vec;
 use proptest::prelude::*;
 use soak::options::Options;
 use soak::order::Sends;
+use soak::sizes::Sizes;
 use soak::table::Table;
 use std::cell::{Cell, RefCell};
 use std::path::{Path, PathBuf};
@@ -205,6 +207,7 @@ fn replays(suite: &mut Suite, name: &str, programs: [&Path; 2], least: u64, long
     }
     let cases = least.div_ceil(20_000) as u32;
     suite.property(&titled("rests"), cases, &Aim::Rests, &mut alike);
+    suite.property(&titled("sizes and room"), cases, &Aim::Sizes, &mut alike);
     suite.property(
         &titled("lines that aim at nothing"),
         least.div_ceil(50_000) as u32,
@@ -242,14 +245,15 @@ fn opposite_copy(
 
 /// Demand 3 on the product's own traces.
 fn demand_3(suite: &mut Suite, programs: [&Path; 2], cases: u32) {
-    let (lines, freed, lost) = (Cell::new(0), Cell::new(0), Cell::new(0));
-    let sends = RefCell::new(Sends::default());
+    let sum = RefCell::new(Tally::default());
+    let calls = Cell::new(0);
+    let met = RefCell::new((Sends::default(), Sizes::default()));
     let told = |trace: &Trace| {
         let answers = replay::answers_alike(programs, &Script(trace.lines.clone()))?;
         let tally = trace.check(&answers)?;
-        lines.set(lines.get() + answers.len());
-        freed.set(freed.get() + tally.freed);
-        lost.set(lost.get() + tally.reported);
+        calls.set(calls.get() + answers.len());
+        sum.borrow_mut().freed += tally.freed;
+        sum.borrow_mut().reported += tally.reported;
         Ok(answers)
     };
     let bearers = (openings(6), vec(steps(), 1..120));
@@ -258,7 +262,8 @@ fn demand_3(suite: &mut Suite, programs: [&Path; 2], cases: u32) {
         for step in steps {
             bearer.make(step)?;
         }
-        sends.borrow_mut().add(bearer.sends);
+        met.borrow_mut().0.add(bearer.sends);
+        met.borrow_mut().1.add(bearer.sizes);
         told(&bearer.trace).map(|_| ())
     });
     for bits in [12, 15, 18] {
@@ -267,26 +272,29 @@ fn demand_3(suite: &mut Suite, programs: [&Path; 2], cases: u32) {
             told(&rested::play(*opening)?.trace).map(|_| ())
         });
     }
-    suite.property(
-        "demand 3, a copy opposite base",
-        1,
-        &openings(0),
-        |opening| opposite_copy(*opening, told),
-    );
-    println!(
-        "demand 3: {} calls, {} packets freed, {} reported lost",
-        lines.get(),
-        freed.get(),
-        lost.get()
-    );
+    let name = "demand 3, a copy opposite base";
+    suite.property(name, 1, &openings(0), |opening| {
+        opposite_copy(*opening, told)
+    });
+    println!("demand 3: {} calls", calls.get());
+    met_on_traces(suite, sum.into_inner(), met.into_inner());
+}
+
+/// What the traces have to have met.
+fn met_on_traces(suite: &mut Suite, sum: Tally, (sends, sizes): (Sends, Sizes)) {
+    let Tally {
+        freed, reported, ..
+    } = sum;
+    println!("demand 3: {freed} packets freed, {reported} reported lost");
     suite.check(
         "demand 3: packets were freed and lost",
-        freed.get() > 0 && lost.get() > 0,
+        freed > 0 && reported > 0,
     );
-    let sends = sends.into_inner();
     println!("demand 3 on traces, sends: {sends}");
     suite.check(
         "demand 3: sends after rests, and at limits",
         sends.least() > 0,
     );
+    println!("demand 3 on traces, sizes: {sizes}");
+    suite.check("demand 3: sizes and room at limits", sizes.least() > 0);
 }

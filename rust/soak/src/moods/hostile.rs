@@ -3,6 +3,7 @@
 use crate::frames;
 use crate::order::last_left;
 use crate::script::Script;
+use crate::sizes;
 use x2u::Form;
 use x2u::frame::{MOST_RANGES, Range, Report};
 use x2u::ledger::{Entry, Fate};
@@ -13,16 +14,24 @@ pub(super) fn frames(script: &mut Script) {
         if script.rng.chance(60) {
             script.send_next(0);
         }
-        let octets = match script.rng.within(0..12) {
-            0..2 => frames::any(&mut script.rng),
-            2 => other_form(script),
-            _ => aimed(script),
-        };
-        script.accept(&octets);
+        frame(script);
+        if script.rng.chance(30) {
+            script.room();
+        }
         if script.rng.chance(20) {
             script.take();
         }
     }
+}
+
+/// A frame that reaches the master, mostly a status that is nearly right.
+pub(super) fn frame(script: &mut Script) {
+    let octets = match script.rng.within(0..12) {
+        0..2 => frames::any(&mut script.rng),
+        2 => other_form(script),
+        _ => aimed(script),
+    };
+    script.accept(&octets);
 }
 
 /// A turn of the X2-U numbers while some lost entries stay where they are: in
@@ -36,12 +45,8 @@ pub(super) fn forgotten_losses(script: &mut Script) {
         start: some[0].number,
         end: some[some.len() - 1].number,
     });
-    let form = form_of(script);
-    script.accept(&frames::status(
-        form,
-        &report(entries[39].pdcp, false),
-        &lost,
-    ));
+    let octets = status(script, entries[39].pdcp, false, &lost);
+    script.accept(&octets);
     let mut sent = 40;
     while sent < script.ends.bearer.numbers().size() + 20 {
         let burst = script.rng.within(1..200);
@@ -49,8 +54,8 @@ pub(super) fn forgotten_losses(script: &mut Script) {
             script.send_next(0);
         }
         sent += burst;
-        let highest = script.ends.ledger.last_sent();
-        script.accept(&frames::status(form, &report(highest, false), &[]));
+        let octets = status(script, script.ends.ledger.last_sent(), false, &[]);
+        script.accept(&octets);
     }
 }
 
@@ -64,21 +69,32 @@ fn other_form(script: &mut Script) -> Vec<u8> {
         Form::Short => Form::Long,
         Form::Long => Form::Short,
     };
-    let highest = script.ends.ledger.highest().min(32_767);
-    frames::status(other, &report(highest, false), &[])
+    let report = Report {
+        highest: script.ends.ledger.highest().min(32_767),
+        desired: script.rng.word(),
+        minimum: 1,
+        is_final: false,
+    };
+    frames::status(other, &report, &[])
 }
 
 fn form_of(script: &Script) -> Form {
     script.ends.bearer.form
 }
 
-fn report(highest: u32, is_final: bool) -> Report {
-    Report {
+/// A status of this bearer's form, which may want as much as it leaves waiting.
+fn status(script: &mut Script, highest: u32, is_final: bool, ranges: &[Range]) -> Vec<u8> {
+    let form = form_of(script);
+    let mut report = Report {
         highest,
-        desired: 70_000,
-        minimum: 1,
+        desired: 0,
+        minimum: script.rng.word(),
         is_final,
-    }
+    };
+    let octets = frames::status(form, &report, ranges);
+    let left = sizes::left(&script.ends.ledger, &octets);
+    report.desired = sizes::desired(&mut script.rng, left);
+    frames::status(form, &report, ranges)
 }
 
 /// A status that names some of what waits lost. All the rest is freed, or none.
@@ -92,7 +108,7 @@ pub(super) fn losses(script: &mut Script, frees_rest: bool) {
     } else {
         ledger.highest()
     };
-    let octets = frames::status(form_of(script), &report(highest, false), &ranges);
+    let octets = status(script, highest, false, &ranges);
     script.accept(&octets);
 }
 
@@ -111,7 +127,7 @@ fn aimed(script: &mut Script) -> Vec<u8> {
         _ => script.rng.pick(&entries).pdcp,
     };
     let is_final = script.rng.once_in(400);
-    let mut octets = frames::status(form_of(script), &report(highest, is_final), &ranges);
+    let mut octets = status(script, highest, is_final, &ranges);
     match script.rng.within(0..20) {
         0..4 => frames::damage(&mut script.rng, &mut octets),
         4..7 => frames::extend(&mut script.rng, &mut octets),
@@ -182,12 +198,14 @@ pub(super) fn numbers(script: &mut Script) {
             0 => number ^ script.rng.within(0..4),
             _ => script.rng.within(0..4_096),
         };
-        match script.rng.within(0..6) {
+        match script.rng.within(0..8) {
             0 => script.bad_open(),
             1 => script.arrive(number, pdcp),
             2 => script.confirm(number),
             3 => script.send(pdcp),
-            4 => script.send_at_edge(),
+            4 => script.send_at_limit(pdcp),
+            5 => script.send_at_edge(),
+            6 => script.room(),
             _ => script.take(),
         }
     }
@@ -233,7 +251,7 @@ pub(super) fn lines(script: &mut Script) {
 }
 
 /// Readable ones among these ask, or are refused whatever the bearer.
-const LINES: [&[u8]; 16] = [
+const LINES: [&[u8]; 22] = [
     b"",
     b"keeper",
     b"ledger",
@@ -245,8 +263,14 @@ const LINES: [&[u8]; 16] = [
     b"open\t0000000013\t0\t0",
     b"arrive\t4294967295\t4294967295",
     b"confirm\t4294967295",
+    b"room",
+    b"room\t0",
+    b"send\t0",
     b"send\t4294967295",
-    b"send\t00000000000",
+    b"send\t4294967295\t1",
+    b"send\t4294967295\t4294967295",
+    b"send\t4294967295\t4294967296",
+    b"send\t0\t00000000000",
     b"status\t0\t0\t2\t1018",
     b"status\t0\t0\t0\t2049",
     b"accept\t40000000000g",
@@ -258,12 +282,14 @@ fn acts(line: &[u8]) -> bool {
     match programs::replay::Call::of_line(line, &mut room) {
         None => false,
         Some(call) => {
-            use programs::replay::Call::{Accept, Arrive, Confirm, Keeper, Ledger, Open, Send};
+            use programs::replay::Call::{
+                Accept, Arrive, Confirm, Keeper, Ledger, Open, Room, Send,
+            };
             let numbers = match call {
-                Keeper | Ledger => return false,
+                Keeper | Ledger | Room => return false,
                 Open([bits, ..]) => return matches!(bits, 12 | 15 | 18),
                 Accept(octets) => return octets.len() >= 14,
-                Arrive([number, _]) | Confirm(number) | Send(number) => number,
+                Arrive([number, _]) | Confirm(number) | Send([number, _]) => number,
                 _ => return true,
             };
             numbers < 1 << 24
@@ -280,12 +306,26 @@ pub(super) fn closing(script: &mut Script) {
     if script.rng.chance(50) {
         // The master is closed even if no final frame of the keeper's reached it.
         let highest = script.ends.ledger.highest();
-        let last = frames::status(form_of(script), &report(highest, true), &[]);
+        let last = status(script, highest, true, &[]);
         script.accept(&last);
     }
+    script.room();
+    closed(script);
+    let held = script.ends.ledger.entries().count();
+    for _ in 0..script.rng.place(held + 4) {
+        script.take();
+        if script.rng.chance(30) {
+            script.room();
+        }
+    }
+    script.show();
+}
+
+/// Calls that a closed end refuses.
+fn closed(script: &mut Script) {
     for _ in 0..script.rng.within(3..12) {
         let number = number(script);
-        match script.rng.within(0..7) {
+        match script.rng.within(0..8) {
             0 => script.arrive_ahead(0),
             1 => script.expire(),
             2 => script.confirm(number),
@@ -294,16 +334,12 @@ pub(super) fn closing(script: &mut Script) {
                 script.status(is_final, 1_018);
             }
             4 => script.send_next(0),
-            5 => {
+            5 => script.send_next_at_limit(),
+            6 => {
                 let octets = frames::any(&mut script.rng);
                 script.accept(&octets);
             }
             _ => script.arrive(number, number),
         }
     }
-    let held = script.ends.ledger.entries().count();
-    for _ in 0..script.rng.place(held + 4) {
-        script.take();
-    }
-    script.show();
 }

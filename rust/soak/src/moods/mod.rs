@@ -18,7 +18,7 @@ pub fn script(rng: Rng) -> Script {
 #[must_use]
 pub fn in_moods(mut script: Script) -> Script {
     for round in 0..script.rng.within(2..7) {
-        match script.rng.within(0..25) {
+        match script.rng.within(0..28) {
             0..3 => stress::runs(&mut script),
             3 => stress::records(&mut script),
             4..6 => stress::jumps(&mut script),
@@ -29,6 +29,7 @@ pub fn in_moods(mut script: Script) -> Script {
             // Not at once, so that most calls meet an open bearer.
             16 if round > 1 => hostile::closing(&mut script),
             17..20 => stress::rests(&mut script),
+            20..23 => stress::sizes(&mut script),
             _ => traffic::traffic(&mut script),
         }
         if script.rng.chance(30) {
@@ -69,6 +70,21 @@ pub fn rested(rng: Rng) -> Script {
     script
 }
 
+/// A script of PDUs at the limits of their size and around the room, on one
+/// bearer to its end.
+#[must_use]
+pub fn sized(rng: Rng) -> Script {
+    let mut script = Script::new(rng);
+    stress::ledger(&mut script);
+    for _ in 0..6 {
+        stress::sizes(&mut script);
+        script.show();
+    }
+    hostile::numbers(&mut script);
+    hostile::closing(&mut script);
+    script
+}
+
 /// Calls before anything is open, for the head of a program's input.
 #[must_use]
 pub fn unopened(rng: Rng) -> Vec<u8> {
@@ -79,6 +95,7 @@ pub fn unopened(rng: Rng) -> Vec<u8> {
     script.confirm(0);
     script.status(false, 0);
     script.send(0);
+    script.send_at_limit(0);
     script.accept(&[]);
     script.take();
     script.show();

@@ -1,5 +1,5 @@
-//! Stores filled to their limits and beyond, the far side of the circle, and
-//! both sides of the limits of send.
+//! Stores filled to their limits and beyond, the far side of the circle, both
+//! sides of the limits of send, and of the room.
 
 use super::hostile;
 use crate::script::Script;
@@ -139,14 +139,19 @@ pub(super) fn ledger(script: &mut Script) {
         };
         script.send_next(skip);
     }
+    for _ in 0..5 {
+        script.send_next_at_limit();
+    }
     edges(script);
 }
 
-/// Sends at the limits of the PDCP order, and anywhere.
+/// Sends at the limits of the PDCP order and of sizes, and anywhere.
 fn edges(script: &mut Script) {
     for _ in 0..script.rng.within(0..12) {
         if script.rng.chance(80) {
             script.send_at_edge();
+        } else if script.rng.chance(30) {
+            script.send_next_at_limit();
         } else {
             let pdcp = script.rng.word() % script.ends.bearer.pdcp.size();
             script.send(pdcp);
@@ -173,5 +178,33 @@ pub(super) fn rests(script: &mut Script) {
             script.take();
         }
         script.send_after_rest();
+    }
+}
+
+/// PDUs at the limits of their size and around the room, which is asked for
+/// after nearly every call.
+pub(super) fn sizes(script: &mut Script) {
+    hostile::losses(script, false);
+    for _ in 0..script.rng.within(5..40) {
+        match script.rng.within(0..9) {
+            0..4 => sized_sends(script),
+            4 => edges(script),
+            5 => hostile::losses(script, false),
+            6 => hostile::losses(script, true),
+            7 => hostile::frame(script),
+            _ => script.take(),
+        }
+        script.room();
+    }
+}
+
+fn sized_sends(script: &mut Script) {
+    for _ in 0..script.rng.pick(&[1, 1, 3, 10]) {
+        if script.rng.chance(20) {
+            script.send_next_at_limit();
+        } else {
+            script.send_next(0);
+        }
+        script.room();
     }
 }

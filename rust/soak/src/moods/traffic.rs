@@ -67,17 +67,7 @@ pub(super) fn turn(script: &mut Script) {
 }
 
 fn round(script: &mut Script, road: &Road) {
-    if script.ends.ledger.oldest_waiting().is_none() && script.rng.once_in(4) {
-        script.send_after_rest();
-    }
-    for _ in 0..script.rng.within(1..road.burst + 1) {
-        let skip = if script.rng.once_in(40) {
-            script.rng.within(0..20)
-        } else {
-            0
-        };
-        script.send_next(skip);
-    }
+    sends(script, road);
     arrivals(script, road);
     if script.rng.once_in(20) {
         script.arrive_opposite();
@@ -96,11 +86,32 @@ fn round(script: &mut Script, road: &Road) {
     }
     if script.rng.chance(road.delivered) {
         script.deliver();
+        script.room();
     }
     if script.rng.chance(road.taken) {
         for _ in 0..script.rng.within(1..30) {
             script.take();
         }
+    }
+}
+
+fn sends(script: &mut Script, road: &Road) {
+    if script.ends.ledger.oldest_waiting().is_none() && script.rng.once_in(4) {
+        script.send_after_rest();
+    }
+    for _ in 0..script.rng.within(1..road.burst + 1) {
+        let skip = if script.rng.once_in(40) {
+            script.rng.within(0..20)
+        } else {
+            0
+        };
+        script.send_next(skip);
+        if script.rng.once_in(50) {
+            script.send_next_at_limit();
+        }
+    }
+    if script.rng.chance(30) {
+        script.room();
     }
 }
 

@@ -19,6 +19,8 @@ pub enum Trouble {
     Start(String),
     /// Demand 3 is violated.
     Demand(String),
+    /// The library's room isn't that of the packets.
+    Room(String),
     /// The program and the library differ; the link knows where.
     Differs,
 }
@@ -73,10 +75,10 @@ impl Bench {
         alike.then_some(()).ok_or(Trouble::Differs)
     }
 
-    /// Sends a packet.
-    pub fn send(&mut self, pdcp: u32) -> Seen<u32> {
-        let answered = self.pair.send(pdcp).map_err(Trouble::Demand)?;
-        self.tell(Call::Send(pdcp), answered, answer::sent)?;
+    /// Sends a packet whose PDU has `size` octets.
+    pub fn send(&mut self, pdcp: u32, size: u32) -> Seen<u32> {
+        let answered = self.pair.send(pdcp, size).map_err(Trouble::Demand)?;
+        self.tell(Call::Send([pdcp, size]), answered, answer::sent)?;
         Ok(answered)
     }
 
@@ -145,6 +147,16 @@ impl Bench {
         Ok(answered)
     }
 
+    /// The master is asked for the room.
+    pub fn room(&mut self) -> Result<u32, Trouble> {
+        let room = self.pair.room().map_err(Trouble::Room)?;
+        self.calls += 1;
+        let alike = self
+            .link
+            .call(|out| Call::Room.print(out), |out| answer::room(room, out));
+        alike.then_some(room).ok_or(Trouble::Differs)
+    }
+
     /// Shows both ends, so that all they hold is compared.
     pub fn show(&mut self) -> Result<(), Trouble> {
         self.pair.check().map_err(Trouble::Demand)?;
@@ -177,6 +189,7 @@ fn word_of(call: &Call<'_>) -> &'static str {
         Call::Send(_) => "send",
         Call::Accept(_) => "accept",
         Call::Take => "take",
+        Call::Room => "room",
         Call::Keeper => "keeper",
         Call::Ledger => "ledger",
     }

@@ -1,6 +1,7 @@
-//! The ramp as a picture (SVG): four panels over one axis of time.
+//! The ramp as a picture (SVG): five panels over one axis of time.
 
 use super::Settings;
+use super::conditions::desired_below;
 use super::figures::{Figures, Second, Stores};
 use super::verdict::Verdict;
 use super::weather::TROUBLES;
@@ -9,7 +10,7 @@ use std::fmt::{self, Display, Formatter};
 use x2u::frame::MOST_RANGES;
 
 const WIDTH: f64 = 1_220.0;
-const HEIGHT: f64 = 1_190.0;
+const HEIGHT: f64 = 1_425.0;
 const LEFT: f64 = 90.0;
 const RIGHT: f64 = 190.0;
 const PANEL: f64 = 180.0;
@@ -197,9 +198,29 @@ impl Chart<'_> {
         panel.line(out, ORANGE, |second| second.fullest.runs as f64)
     }
 
+    fn rooms(&self, out: &mut Formatter<'_>) -> fmt::Result {
+        let full = desired_below(self.settings.rate) as usize;
+        let panel = self.panel(3, full as f64);
+        let title = "Room: octets the secondary still wants, most and on average in each second";
+        panel.frame(out, title, &quarters(full))?;
+        panel.line(out, BLUE, |second| second.rooms.most.into())?;
+        panel.line(out, ORANGE, |second| second.rooms.average() as f64)?;
+        let rooms = self.figures.rooms;
+        let zero = format!("0 in {} of 100", 100 * rooms.none / rooms.asked.max(1));
+        let right = self.x(f64::INFINITY) + 8.0;
+        for (row, colour, words) in [
+            (14.0, BLUE, "most"),
+            (30.0, ORANGE, "on average"),
+            (46.0, GREY, &zero),
+        ] {
+            text(out, right, panel.top + row, "start", colour, 12.0, words)?;
+        }
+        Ok(())
+    }
+
     fn base(&self, out: &mut Formatter<'_>) -> fmt::Result {
         let size = self.settings.opening().numbers() as usize;
-        let panel = self.panel(3, size as f64);
+        let panel = self.panel(4, size as f64);
         let title = "Base: the lowest X2-U number still open at the secondary";
         panel.frame(out, title, &quarters(size))?;
         for &time in &self.figures.numbers.times {
@@ -311,8 +332,9 @@ impl Display for Chart<'_> {
         writeln!(out, r#"<rect width="100%" height="100%" fill="white"/>"#)?;
         self.title(out)?;
         self.stores(out)?;
+        self.rooms(out)?;
         self.base(out)?;
-        self.troubles(out, 1_061.0)?;
+        self.troubles(out, HEIGHT - 129.0)?;
         let middle = (LEFT + self.x(f64::INFINITY)) / 2.0;
         let axis = "minutes:seconds into the ramp";
         text(out, middle, HEIGHT - 20.0, "middle", GREY, 13.0, axis)?;

@@ -7,6 +7,7 @@ use super::words::{grouped, times};
 use std::ops::Range;
 use x2u::frame::MOST_RANGES;
 use x2u::keeper::WINDOW;
+use x2u::ledger::LARGEST_SIZE;
 
 /// The source's queue at the master holds what it makes in so many seconds,
 pub const QUEUE_SECONDS: u32 = 5;
@@ -18,6 +19,19 @@ pub const QUEUE_LEAST: u32 = 20;
 pub const LINE: u32 = 2;
 /// A rate counts as reached if so many of 100 packets were sent in time.
 pub const REACHED: u64 = 99;
+/// So many of 1,000 PDUs have such a size, in octets: acknowledgements, full
+/// packets, some of any size, and both limits.
+pub const SIZES: [(u32, Range<u32>); 5] = [
+    (300, 40..101),
+    (670, 1_300..1_501),
+    (26, 1..LARGEST_SIZE + 1),
+    (2, 1..2),
+    (2, LARGEST_SIZE..LARGEST_SIZE + 1),
+];
+/// One send in so many is first tried with a wrong size,
+pub const WRONG_SIZE: u32 = 1_000;
+/// one of these.
+pub const WRONG_SIZES: [u32; 4] = [0, LARGEST_SIZE + 1, LARGEST_SIZE + 100, u32::MAX];
 
 /// Drops at random, of 1,000 packets: at both ends of the ramp, and in its middle.
 pub const DROPS: [f64; 2] = [1.0, 8.0];
@@ -74,14 +88,18 @@ pub const STATUS_ARRIVALS: u32 = 120;
 pub const SHORT_BUFFER: u32 = 30;
 /// of fewer octets than this.
 pub const SHORT_BUFFER_BELOW: usize = 14;
-/// Desired sizes are below this.
-pub const DESIRED_BELOW: u32 = 2_000_000;
+/// Desired sizes are below what the source makes in so long,
+pub const DESIRED_TIME: u64 = 160;
+/// in PDUs of so many octets.
+pub const DESIRED_PDU: u64 = 1_500;
 /// The minimum size is this part of the desired one.
 pub const MINIMUM_PART: u32 = 4;
 /// Lost packets are taken so often,
 pub const TAKE: u64 = 10;
 /// so many at most.
 pub const TAKE_MOST: u32 = 60;
+/// The master is asked for the room so often, besides after each status.
+pub const ROOM: u64 = 10;
 /// Both ends are shown after as many statuses.
 pub const SHOW: u32 = 20;
 /// After the last send, what is under way has so long to arrive, before the
@@ -203,10 +221,10 @@ pub fn road() -> Vec<Row> {
 
 /// The rows of the secondary's host.
 #[must_use]
-pub fn secondary() -> Vec<Row> {
+pub fn secondary(settings: &Settings) -> Vec<Row> {
     let often = format!("every {STATUS} ms, or after {STATUS_ARRIVALS} arrivals");
     let short = format!("1 in {SHORT_BUFFER} first asked for");
-    let desired = grouped(DESIRED_BELOW.into());
+    let desired = grouped(desired_below(settings.rate).into());
     let again = format!("tried every {HANDSET_AGAIN} ms, 1 in {HASTY} made too early");
     vec![
         (
@@ -223,7 +241,7 @@ pub fn secondary() -> Vec<Row> {
         ),
         (
             "sizes in a status",
-            format!("desired below {desired}, minimum 1/{MINIMUM_PART} of it"),
+            format!("desired below {desired} octets, minimum 1/{MINIMUM_PART} of it"),
         ),
         (
             "confirm by the handset",
@@ -237,9 +255,7 @@ pub fn secondary() -> Vec<Row> {
 #[must_use]
 pub fn master() -> Vec<Row> {
     let radio = shown(&OWN_RADIO_PACKETS);
-    let lengths = REST_LENGTHS.map(|length| format!("{} to {}", length.start, length.end));
-    let lengths = lengths.join(", ");
-    vec![
+    let mut rows = vec![
         (
             "lost packets taken",
             format!("every {TAKE} ms, at most {TAKE_MOST}"),
@@ -248,6 +264,26 @@ pub fn master() -> Vec<Row> {
             "on the master's own radio",
             format!("{radio} packets after 1 send in {OWN_RADIO}"),
         ),
+    ];
+    rows.extend(rests());
+    rows.push((
+        "room asked for",
+        format!(
+            "every {ROOM} ms, after each status, and after each take once closed; the source doesn't heed it"
+        ),
+    ));
+    rows.push((
+        "both ends shown and compared",
+        format!("after every {SHOW} statuses"),
+    ));
+    rows
+}
+
+/// The rows of its rests.
+fn rests() -> [Row; 4] {
+    let lengths = REST_LENGTHS.map(|length| format!("{} to {}", length.start, length.end));
+    let lengths = lengths.join(", ");
+    [
         (
             "rests there, nothing over X2",
             format!("after a pause of {}", milliseconds(&REST_PAUSE)),
@@ -267,10 +303,6 @@ pub fn master() -> Vec<Row> {
                 "until nothing waits; 1 in {REST_AT_ONCE} is over at once, and sends wait for the PDCP order"
             ),
         ),
-        (
-            "both ends shown and compared",
-            format!("after every {SHOW} statuses"),
-        ),
     ]
 }
 
@@ -284,6 +316,10 @@ pub fn limits() -> Vec<Row> {
     } = Stores::LIMITS;
     vec![
         ("entries in the ledger", entries.to_string()),
+        (
+            "size of a PDU",
+            format!("1 to {} octets", grouped(LARGEST_SIZE.into())),
+        ),
         ("records in the keeper", records.to_string()),
         ("listed runs in the keeper", runs.to_string()),
         ("ranges in one status", MOST_RANGES.to_string()),
@@ -337,6 +373,14 @@ pub fn source(settings: &Settings) -> Vec<Row> {
             "made by the source",
             format!("{} a second, evenly", times(settings.rate.into(), "packet")),
         ),
+        ("  octets in a PDU, of 1,000 PDUs", sizes()),
+        (
+            "  first tried with a wrong size",
+            format!(
+                "1 send in {}: 0 octets, or too many",
+                grouped(WRONG_SIZE.into())
+            ),
+        ),
         (
             "its queue at the master",
             format!("{} at most", times(queue(settings.rate) as u64, "packet")),
@@ -354,6 +398,18 @@ pub fn source(settings: &Settings) -> Vec<Row> {
             format!("{} ms for what is under way, then Final", grouped(WIND_UP)),
         ),
     ]
+}
+
+/// The sizes of PDUs in words.
+fn sizes() -> String {
+    let each = SIZES.map(|(times, sizes)| format!("{times} of {}", shown(&sizes)));
+    each.join(", ")
+}
+
+/// Desired sizes at a rate are below this.
+#[must_use]
+pub fn desired_below(rate: u32) -> u32 {
+    (u64::from(rate) * DESIRED_TIME * DESIRED_PDU / 1_000) as u32
 }
 
 /// The longest queue at a rate.

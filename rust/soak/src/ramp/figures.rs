@@ -2,6 +2,7 @@
 
 use super::losses::Losses;
 use super::rests::Rested;
+use super::rooms::Rooms;
 use super::source::Flow;
 use super::weather::TROUBLES;
 use model::Pair;
@@ -52,6 +53,8 @@ pub struct Second {
     pub base: u32,
     /// Packets sent in it.
     pub sent: u64,
+    /// The room in it.
+    pub rooms: Rooms,
     /// Which troubles there were in it.
     pub troubles: Troubles,
 }
@@ -94,6 +97,8 @@ pub struct Figures {
     pub rests: Rested,
     /// PDCP numbers used in all.
     pub pdcps_used: u64,
+    /// The room, whenever it was asked for.
+    pub rooms: Rooms,
     /// Statuses with the highest held back, for more runs than a frame carries.
     pub held_back: u64,
     /// Ranges carried by all statuses.
@@ -114,6 +119,7 @@ pub struct Figures {
     pub seconds: Vec<Second>,
     now_fullest: Stores,
     now_sent: u64,
+    now_rooms: Rooms,
     now_troubles: Troubles,
 }
 
@@ -136,6 +142,12 @@ impl Figures {
         }
     }
 
+    /// The room was asked for.
+    pub fn room(&mut self, room: u32) {
+        self.rooms.see(room);
+        self.now_rooms.see(room);
+    }
+
     /// Looks at the stores. They are fullest after a send, an arrival or an
     /// expiry, so once a millisecond is enough.
     pub fn look(&mut self, pair: &Pair, troubles: Troubles) {
@@ -153,6 +165,7 @@ impl Figures {
             fullest,
             base: pair.keeper.base(),
             sent: std::mem::take(&mut self.now_sent),
+            rooms: std::mem::take(&mut self.now_rooms),
             troubles: std::mem::take(&mut self.now_troubles),
         });
     }

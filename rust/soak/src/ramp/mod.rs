@@ -13,6 +13,7 @@ pub mod play;
 pub mod refusals;
 pub mod report;
 pub mod rests;
+pub mod rooms;
 pub mod run;
 pub mod source;
 pub mod table;

@@ -3,9 +3,9 @@
 use super::Settings;
 use super::bench::{Bench, Trouble, held_by};
 use super::conditions::{
-    DESIRED_BELOW, GAP, HANDSET_AGAIN, HASTY, OLD_COPY, OLD_COPY_QUIET, OLDEST_COPY, OWN_RADIO,
-    OWN_RADIO_PACKETS, ROLLOVER_DROPS, SHORT_BUFFER, SHORT_BUFFER_BELOW, SHOW, STATUS,
-    STATUS_ARRIVALS, TAKE, TAKE_MOST, TWIN_LATER, WIND_UP,
+    GAP, HANDSET_AGAIN, HASTY, OLD_COPY, OLD_COPY_QUIET, OLDEST_COPY, OWN_RADIO, OWN_RADIO_PACKETS,
+    ROLLOVER_DROPS, ROOM, SHORT_BUFFER, SHORT_BUFFER_BELOW, SHOW, STATUS, STATUS_ARRIVALS, TAKE,
+    TAKE_MOST, TWIN_LATER, WIND_UP, WRONG_SIZE, WRONG_SIZES, desired_below,
 };
 use super::figures::Figures;
 use super::link::Mismatch;
@@ -51,6 +51,8 @@ struct Play {
     figures: Figures,
     now: u64,
     source: Source,
+    /// Desired sizes are below this.
+    desired_below: u32,
     next_pdcp: u64,
     road: Queue,
     handset: Queue,
@@ -77,6 +79,7 @@ impl Play {
     fn new(settings: &Settings, opening: Opening, bench: Bench) -> Self {
         let mut rng = Rng::new(settings.seed);
         let weather_rng = Rng::new(rng.bits());
+        let source_rng = Rng::new(rng.bits());
         Self {
             bench,
             opening,
@@ -84,7 +87,8 @@ impl Play {
             rng,
             figures: Figures::default(),
             now: 0,
-            source: Source::new(settings.rate),
+            source: Source::new(settings.rate, source_rng),
+            desired_below: desired_below(settings.rate),
             next_pdcp: opening.first_pdcp,
             road: Queue::new(),
             handset: Queue::new(),
@@ -151,6 +155,15 @@ impl Play {
         if self.now.is_multiple_of(TAKE) && !self.weather.leaves_losses() {
             self.take_some(TAKE_MOST)?;
         }
+        if self.now.is_multiple_of(ROOM) {
+            self.room()?;
+        }
+        Ok(())
+    }
+
+    fn room(&mut self) -> Result<(), Trouble> {
+        let room = self.bench.room()?;
+        self.figures.room(room);
         Ok(())
     }
 
@@ -159,9 +172,16 @@ impl Play {
         if self.weather.rests.drains() && self.nothing_waits() {
             self.rest();
         }
-        while !self.weather.holds_sending() && self.source.has_packet() {
+        while !self.weather.holds_sending()
+            && let Some(size) = self.source.next_size()
+        {
             let pdcp = (self.next_pdcp % self.opening.pdcps()) as u32;
-            match self.bench.send(pdcp)? {
+            if self.rng.once_in(WRONG_SIZE) {
+                // The host gives another size than the PDU has, and tries again.
+                let wrong = self.rng.pick(&WRONG_SIZES);
+                let _ = self.bench.send(pdcp, wrong)?;
+            }
+            match self.bench.send(pdcp, size)? {
                 Ok(number) => self.went_out(number),
                 Err(Refusal::PdcpOrder) if pdcp == self.bench.pair.ledger.highest() => {
                     self.pass_highest();
@@ -363,7 +383,7 @@ impl Play {
     }
 
     fn status(&mut self, is_final: bool) -> Result<(), Trouble> {
-        let desired = self.rng.within(0..DESIRED_BELOW);
+        let desired = self.rng.within(0..self.desired_below);
         if self.rng.once_in(SHORT_BUFFER) {
             // The host's buffer is too short, and it tries again.
             let room = self.rng.place(SHORT_BUFFER_BELOW);
@@ -388,6 +408,7 @@ impl Play {
         while self.frames.front().is_some_and(|&due| due <= self.now) {
             self.frames.pop_front();
             self.bench.deliver()?;
+            self.room()?;
         }
         Ok(())
     }
@@ -420,7 +441,10 @@ impl Play {
         self.now = self.frames.back().map_or(self.now, |&last| last);
         self.deliver_due()?;
         self.bench.show()?;
-        self.take_some(u32::MAX)?;
+        // Each that still waits gives its octets back.
+        while self.bench.take()?.is_ok() {
+            self.room()?;
+        }
         self.bench.show()
     }
 }

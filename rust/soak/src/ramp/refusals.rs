@@ -7,7 +7,7 @@ use x2u::Refusal::{
     self, BufferShort, Closed, FieldsCut, FinalTooEarly, FrameLength, HighestNotWaiting,
     HighestOutside, HighestTooLarge, Late, LedgerFull, ListCut, NotConfirmable, NotOurStatus,
     NothingOpen, NothingToTake, NumberTooLarge, Opposite, PdcpLength, PdcpOrder, RangeCount,
-    RangesNotWaiting, RecordsFull, Repeated, ReservedType, RunsFull, Span,
+    RangesNotWaiting, RecordsFull, Repeated, ReservedType, RunsFull, SizeOutside, Span,
 };
 
 /// The end, the call's word, and its refusals in their order.
@@ -39,7 +39,7 @@ const CALLS: [Call; 8] = [
     (
         "master",
         "send",
-        &[Closed, NumberTooLarge, PdcpOrder, LedgerFull],
+        &[Closed, NumberTooLarge, SizeOutside, PdcpOrder, LedgerFull],
     ),
     (
         "master",
@@ -90,6 +90,7 @@ fn words(refusal: Refusal) -> &'static str {
         PdcpOrder => "PDCP order",
         LedgerFull => "ledger full, 512 held",
         NothingToTake => "nothing to take",
+        SizeOutside => "size of 0 or above 16,384 octets",
     }
 }
 

@@ -18,14 +18,14 @@ use x2u::frame::MOST_RANGES;
 const WHY_LATE: &str = "An expiry gives up every open number below the highest accepted, and an arrival those far below it:
   also packets that are merely late, still on the road.";
 
-/// What it takes to pass.
 /// What the figures of a run are that the program failed.
 const RUNS_AHEAD: &str = "\
 The figures above are the library's. It runs ahead of the program, which is read as it answers: they go past the
 call that failed.";
 
+/// What it takes to pass.
 const PASSED: &str = "PASSED says that every answer of the program was that of the independent library, and that on these answers
-  the bearer kept demand 3, packet by packet.";
+  the bearer kept demand 3, packet by packet, and had the room that the sizes of its packets leave.";
 
 /// A ramp that is over, to be printed.
 pub struct Report<'a> {
@@ -109,7 +109,7 @@ impl Report<'_> {
         rows(
             out,
             "Settings: the secondary's host",
-            conditions::secondary(),
+            conditions::secondary(self.settings),
         )?;
         rows(out, "Settings: the master's host", conditions::master())?;
         rows(out, "Settings: troubles that come and go", troubles)?;
@@ -166,6 +166,23 @@ impl Report<'_> {
         line(out, "taken from the master", tally.taken)?;
         let waiting = tally.taken.saturating_sub(tally.lost);
         line(out, "  of them still waiting when Final closed it", waiting)
+    }
+
+    fn octets(&self, out: &mut Formatter<'_>) -> fmt::Result {
+        let (rooms, octets) = (self.ending.figures.rooms, self.ending.tally.octets);
+        section(out, "Octets of the packets sent over X2")?;
+        let parts = [
+            ("freed by the master", octets.freed),
+            ("taken from the master", octets.taken),
+        ];
+        sum(out, "octets sent", &parts, octets.sent)?;
+        line(out, "of packets declared lost", octets.lost)?;
+        section(out, "Room: octets desired less those that wait")?;
+        line(out, "times it was asked for", rooms.asked)?;
+        line(out, "  times it was 0", rooms.none)?;
+        line(out, "least above 0", rooms.least.into())?;
+        line(out, "most", rooms.most.into())?;
+        line(out, "on average", rooms.average())
     }
 
     fn rests(&self, out: &mut Formatter<'_>) -> fmt::Result {
@@ -319,8 +336,10 @@ impl Report<'_> {
         if self.ending.mismatch.is_some() {
             writeln!(out, "\n{RUNS_AHEAD}")?;
         }
-        if let Some(Trouble::Demand(words)) = &self.ending.trouble {
-            writeln!(out, "\nDemand 3: {words}")?;
+        match &self.ending.trouble {
+            Some(Trouble::Demand(words)) => writeln!(out, "\nDemand 3: {words}")?,
+            Some(Trouble::Room(words)) => writeln!(out, "\nOf the library: {words}")?,
+            _ => {}
         }
         if let Some(mismatch) = &self.ending.mismatch {
             match mismatch.call {
@@ -370,8 +389,11 @@ fn row(out: &mut Formatter<'_>, what: &str, value: String) -> fmt::Result {
     writeln!(out, "  {what:<36} {value}")
 }
 
+/// A figure that ends where all figures do, unless its words are too long.
 fn line(out: &mut Formatter<'_>, what: &str, count: u64) -> fmt::Result {
-    writeln!(out, "  {what:<44} {:>12}", grouped(count))
+    let figure = grouped(count);
+    let width = 57_usize.saturating_sub(what.len()).max(figure.len() + 1);
+    writeln!(out, "  {what}{figure:>width$}")
 }
 
 /// Shows parts, and that they add up to a whole, or that they don't.
@@ -400,6 +422,7 @@ impl Display for Report<'_> {
         self.rate(out)?;
         self.flow(out)?;
         self.packets(out)?;
+        self.octets(out)?;
         self.rests(out)?;
         self.losses(out)?;
         self.dropped(out)?;

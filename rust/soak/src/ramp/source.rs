@@ -1,6 +1,7 @@
 //! The source of packets, and the queue in which they wait at the master.
 
-use super::conditions::{LINE, queue};
+use super::conditions::{LINE, SIZES, queue};
+use crate::rng::Rng;
 use std::collections::VecDeque;
 
 /// What holds a packet up.
@@ -50,12 +51,14 @@ pub struct Flow {
 
 /// A packet in the queue.
 struct Waiting {
+    size: u32,
     since: u64,
     counted: bool,
 }
 
 /// The source with its queue.
 pub struct Source {
+    rng: Rng,
     rate: u64,
     most: usize,
     /// What is made of the next packet, in thousandths.
@@ -69,8 +72,9 @@ pub struct Source {
 impl Source {
     /// A source of so many packets a second.
     #[must_use]
-    pub fn new(rate: u32) -> Self {
+    pub fn new(rate: u32, rng: Rng) -> Self {
         Self {
+            rng,
             rate: rate.into(),
             most: queue(rate),
             part: 0,
@@ -92,21 +96,35 @@ impl Source {
         let room = (self.most - self.queue.len()) as u64;
         self.flow.turned_away += made.saturating_sub(room);
         for _ in 0..made.min(room) {
+            let size = self.size();
             self.queue.push_back(Waiting {
+                size,
                 since: now,
                 counted: false,
             });
         }
     }
 
-    /// Whether a packet is there to be sent. If the line carries no more, what
-    /// is left in the queue has to wait.
-    pub fn has_packet(&mut self) -> bool {
-        let carried = self.line < 1_000;
-        if carried {
-            self.held(HeldBy::Line);
+    /// The size of a PDU that is made now.
+    fn size(&mut self) -> u32 {
+        let mut place = self.rng.within(0..1_000);
+        for (times, sizes) in SIZES {
+            if place < times {
+                return self.rng.within(sizes);
+            }
+            place -= times;
         }
-        !carried && !self.queue.is_empty()
+        1
+    }
+
+    /// The size of the packet that is to be sent next, if there is one. If the
+    /// line carries no more, what is left in the queue has to wait.
+    pub fn next_size(&mut self) -> Option<u32> {
+        if self.line < 1_000 {
+            self.held(HeldBy::Line);
+            return None;
+        }
+        self.queue.front().map(|packet| packet.size)
     }
 
     /// The oldest packet was sent.
@@ -145,12 +163,17 @@ impl Source {
 #[cfg(test)]
 mod tests {
     use super::{HeldBy, Source};
-    use crate::ramp::conditions::queue;
+    use crate::ramp::conditions::{SIZES, queue};
+    use crate::rng::Rng;
+
+    fn source(rate: u32) -> Source {
+        Source::new(rate, Rng::new(1))
+    }
 
     /// Sends all that can be sent now; answers how many those are.
     fn send_all(source: &mut Source, now: u64) -> u64 {
         let mut sent = 0;
-        while source.has_packet() {
+        while source.next_size().is_some() {
             source.sent(now);
             sent += 1;
         }
@@ -158,9 +181,21 @@ mod tests {
     }
 
     #[test]
+    fn pdus_of_every_size_are_made() {
+        assert_eq!(SIZES.iter().map(|(times, _)| times).sum::<u32>(), 1_000);
+        let mut source = source(1_000);
+        let sizes: Vec<u32> = (0..100_000).map(|_| source.size()).collect();
+        for (times, range) in SIZES {
+            let made = sizes.iter().filter(|&size| range.contains(size)).count();
+            assert!(made >= times as usize * 80, "{made} of {range:?}");
+        }
+        assert!(sizes.iter().all(|size| (1..=16_384).contains(size)));
+    }
+
+    #[test]
     fn a_second_makes_the_rate() {
         for rate in [1, 3, 999, 1_000, 1_001, 2_000, 100_000] {
-            let mut source = Source::new(rate);
+            let mut source = source(rate);
             let mut sent = 0;
             for now in 1..=1_000 {
                 source.offer(now);
@@ -174,7 +209,7 @@ mod tests {
 
     #[test]
     fn what_waits_is_counted_once_and_sent_at_twice_the_rate() {
-        let mut source = Source::new(2_000);
+        let mut source = source(2_000);
         for now in 1..=10 {
             source.offer(now);
             source.held(HeldBy::Ledger);
@@ -189,7 +224,7 @@ mod tests {
 
     #[test]
     fn a_full_queue_turns_packets_away() {
-        let mut source = Source::new(1_000);
+        let mut source = source(1_000);
         let most = queue(1_000) as u64;
         for now in 1..=most + 7 {
             source.offer(now);

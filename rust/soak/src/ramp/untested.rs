@@ -2,6 +2,7 @@
 
 use super::facts::Build;
 use super::figures::Stores;
+use super::play::Ending;
 use super::refusals;
 use super::report::Report;
 use super::verdict::{Verdict, rate_sent};
@@ -17,8 +18,9 @@ pub fn list(report: &Report<'_>) -> Vec<String> {
 }
 
 /// True of every ramp.
-const ALWAYS: [&str; 6] = [
+const ALWAYS: [&str; 7] = [
     "A rest behind a packet that is dropped: it waits on, and from half a circle of PDCP numbers on sends are refused (35).",
+    "A host that heeds the room: the source sends whatever it is. Which radio a PDU goes over is not decided here.",
     "More than one bearer at a time, a bearer opened again, a run of calls from several threads.",
     "A real clock, real timers, a real radio or handset: time, delays and confirms are simulated.",
     "The archive for C and its header: every call went to the program under test as a line of text.",
@@ -74,6 +76,7 @@ fn coverage(report: &Report<'_>) -> Vec<String> {
     if ending.figures.rests.turns == 0 {
         list.push("A rest of more than a whole turn of the PDCP circle.".to_owned());
     }
+    list.extend(rooms(ending));
     list.extend(stores(ending.figures.fullest));
     if !refusals::any_to(&ending.table, "accept") {
         list.push(STATUSES.to_owned());
@@ -84,6 +87,22 @@ fn coverage(report: &Report<'_>) -> Vec<String> {
         "{never} of {all} refusals, each call's counted apart: see \"Refusals never met\"."
     ));
     list
+}
+
+/// Rooms that were never met.
+fn rooms(ending: &Ending) -> impl Iterator<Item = String> {
+    let (rooms, tally) = (ending.figures.rooms, ending.tally);
+    [
+        (rooms.none == 0, "A room of 0."),
+        (rooms.most == 0, "A room above 0."),
+        (
+            tally.taken <= tally.lost,
+            "Room that a closed end gains by a take: nothing waited when Final closed it.",
+        ),
+    ]
+    .into_iter()
+    .filter(|(never, _)| *never)
+    .map(|(_, what)| what.to_owned())
 }
 
 /// Stores that were never full.

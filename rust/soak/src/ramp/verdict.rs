@@ -87,6 +87,7 @@ fn failure(ending: &Ending) -> Option<String> {
             Some(format!("the program under test can't be started: {words}"))
         }
         (Some(Trouble::Demand(_)), _) => Some("demand 3 is violated".to_owned()),
+        (Some(Trouble::Room(_)), _) => Some("the room is wrong".to_owned()),
         (_, Some(mismatch)) if mismatch.silent => {
             Some(format!("call {} got no answer", mismatch.call))
         }
