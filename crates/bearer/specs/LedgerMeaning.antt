@@ -121,7 +121,7 @@ octetsOf b [] = 0
 octetsOf b (i ∷ is) = getD (b .sizes) i 0 + octetsOf b is
 
 -- "Room is the desired size of the last accepted status less the sizes of all waiting entries, and 0 where that would be negative or no status
--- has come" (request Four), by the packets that wait; a difference of numbers that would be negative is 0
+-- has come" (request Four, from TS 36.425, 5.4.2.1), by the packets that wait; a difference of numbers that would be negative is 0
 abbrev pub roomBy : Books → List ℕ → ℕ
 roomBy b ws = if b .heard then b .desired - octetsOf b ws else 0
 
