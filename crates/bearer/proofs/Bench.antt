@@ -12,7 +12,7 @@ use Rattle.frame_layout.specs.Frames.{Range, Status, Reading, data-of, status-o
 use Rattle.bearer.specs.Keeper as K
 use Rattle.bearer.specs.Keeper.{_with-closed_, _with-runs_, _with-records_}
 use Rattle.bearer.specs.Ledger as G
-use Rattle.bearer.specs.Ledger.{_with-sent_, _with-entries_}
+use Rattle.bearer.specs.Ledger.{_with-sent_, _with-octets_, _with-entries_}
 use Rattle.bearer.specs.Rule.{below}
 
 -- a call on a secondary, and what it answers
@@ -34,6 +34,8 @@ pub data Turn : Type 0 where
   takes : Outcome G.Taken → Turn
   -- room is asked for
   has-room : ℕ → Turn
+  -- so much waits, by the sum that is kept
+  keeps : ℕ → Turn
 
 -- a case
 pub data Case : Type 0 where
@@ -92,7 +94,8 @@ TurnsAnswered l [] = Unit
 TurnsAnswered l (puts p z a ∷ ts) = (G.send l p z tt .answer ≡ a) × TurnsAnswered (G.send l p z tt .state) ts
 TurnsAnswered l (accepts o a ∷ ts) = (G.accept l o .answer ≡ a) × TurnsAnswered (G.accept l o .state) ts
 TurnsAnswered l (takes a ∷ ts) = (G.takeOldest l .answer ≡ a) × TurnsAnswered (G.takeOldest l .state) ts
-TurnsAnswered l (has-room n ∷ ts) = (G.room l ≡ n) × TurnsAnswered l ts
+TurnsAnswered l (has-room n ∷ ts) = (G.keptRoom l ≡ n) × TurnsAnswered l ts
+TurnsAnswered l (keeps n ∷ ts) = (l .octets ≡ n) × TurnsAnswered l ts
 
 -- what is said of an end, which was opened
 abbrev pub Of : {A : Type 0} → Outcome A → (A → Type 0) → Type 0
@@ -167,7 +170,7 @@ sends p a = puts p 1 a
 
 -- a master that holds so many entries of 16,384 octets each
 abbrev pub filled : ℕ → G.Ledger Unit
-filled n = G.freshLedger {A = Unit} 12 1000 1 with-sent 999 with-entries map (λ (i : ℕ). G.newEntry i i 16384 tt) (below n)
+filled n = G.freshLedger {A = Unit} 12 1000 1 with-sent 999 with-octets n * 16384 with-entries map (λ (i : ℕ). G.newEntry i i 16384 tt) (below n)
 
 -- two ranges of the short form, and a frame that bears them
 abbrev pub two-short : List Range
@@ -209,7 +212,11 @@ lost-only n = 0x11 ∷ 0x0F ∷ 0xFF ∷ one-range n
 abbrev pub desiring : ℕ → List ℕ
 desiring d = d / 16777216 ∷ d / 65536 % 256 ∷ d / 256 % 256 ∷ d % 256 ∷ 0 ∷ 0 ∷ 0 ∷ 7 ∷ []
 
--- a frame of the short form with a highest and a desired size; one with Final, and one that names a number, both with the highest 4095
+-- a frame of the short form that names a number, with a highest and a desired size
+abbrev pub loses-under : ℕ → ℕ → ℕ → List ℕ
+loses-under h n d = 0x11 ∷ h / 256 ∷ h % 256 ∷ desiring d ++ (0x01 ∷ 0x00 ∷ n ∷ 0x00 ∷ n ∷ 0x00 ∷ 0x00 ∷ [])
+
+-- one with a highest and a desired size; one with Final, and one that names a number, both with the highest 4095
 abbrev pub wants : ℕ → ℕ → List ℕ
 wants h d = 0x10 ∷ h / 256 ∷ h % 256 ∷ desiring d ++ replicate 3 0
 
@@ -217,7 +224,7 @@ abbrev pub ends : ℕ → List ℕ
 ends d = 0x12 ∷ 0x0F ∷ 0xFF ∷ desiring d ++ replicate 3 0
 
 abbrev pub loses : ℕ → ℕ → List ℕ
-loses n d = 0x11 ∷ 0x0F ∷ 0xFF ∷ desiring d ++ (0x01 ∷ 0x00 ∷ n ∷ 0x00 ∷ n ∷ 0x00 ∷ 0x00 ∷ [])
+loses n d = loses-under 4095 n d
 
 -- a status by which so many were freed and so many became lost, one with Final that did neither, and what was taken, of one octet and of others
 abbrev pub counts : ℕ → ℕ → Outcome G.Accepted
@@ -354,6 +361,22 @@ bytes =
     ∷ turns (done (filled 512)) (has-room 0 ∷ accepts (wants 0 4294967295) (counts 0 0) ∷ has-room 4286578687 ∷ accepts (wants 0 8388608) (counts 0 0) ∷ has-room 0 ∷ [])
     ∷ []
 
+-- the sum of the waiting sizes (request Five)
+abbrev pub summed : List Case
+summed =
+    -- a send raises it, what becomes lost lowers it and its take doesn't, what is freed lowers it; refused calls don't, nor a frame that frees none
+    turns (G.openLedger 12 0 0) (keeps 0 ∷ puts 0 100 (done 0) ∷ puts 1 50 (done 1) ∷ puts 2 7 (done 2) ∷ puts 3 16384 (done 3) ∷ keeps 16541 ∷ puts 4 16385 (refused 39) ∷ puts 3 5 (refused 35) ∷ accepts (loses 9 900) (refused 33) ∷ accepts (loses-under 9 1 900) (refused 34) ∷ takes (refused 38) ∷ keeps 16541 ∷ accepts (loses 1 900) (counts 0 1) ∷ keeps 16491 ∷ takes (taken-of 1 1 50) ∷ keeps 16491 ∷ accepts (wants 0 900) (counts 1 0) ∷ keeps 16391 ∷ accepts (wants 0 900) (counts 0 0) ∷ keeps 16391 ∷ accepts (wants 3 900) (counts 2 0) ∷ keeps 0 ∷ [])
+    -- one frame by which an entry is lost between two that are freed
+    ∷ turns (G.openLedger 12 0 0) (puts 0 100 (done 0) ∷ puts 1 50 (done 1) ∷ puts 2 7 (done 2) ∷ puts 3 3 (done 3) ∷ accepts (loses-under 2 1 900) (counts 2 1) ∷ keeps 3 ∷ has-room 897 ∷ takes (taken-of 1 1 50) ∷ keeps 3 ∷ [])
+    -- a closed end's take lowers it by a waiting entry, and not by a lost one; a refused take doesn't
+    ∷ turns (G.openLedger 12 0 0) (puts 0 100 (done 0) ∷ puts 1 50 (done 1) ∷ puts 2 7 (done 2) ∷ accepts (loses 1 900) (counts 0 1) ∷ accepts (ends 900) ended ∷ keeps 107 ∷ takes (taken-of 0 0 100) ∷ keeps 7 ∷ takes (taken-of 1 1 50) ∷ keeps 7 ∷ takes (taken-of 2 2 7) ∷ keeps 0 ∷ takes (refused 38) ∷ keeps 0 ∷ [])
+    -- the most that waits, all of it freed, and a full master's refused send
+    ∷ turns (done (filled 511)) (keeps 8372224 ∷ puts 1000 16384 (done 1000) ∷ keeps 8388608 ∷ puts 1001 1 (refused 36) ∷ keeps 8388608 ∷ accepts (wants 1000 0) (counts 512 0) ∷ keeps 0 ∷ [])
+    -- states that no call reaches: a sum too great stops at the most, one too small at 0, and room is by the sum
+    ∷ turns (done (G.freshLedger 12 0 0 with-octets 4294967295)) (puts 0 1 (done 0) ∷ keeps 8388608 ∷ accepts (wants 4095 8388609) (counts 0 0) ∷ has-room 1 ∷ accepts (loses 0 8388609) (counts 0 1) ∷ keeps 8388607 ∷ [])
+    ∷ turns (done (filled 3 with-octets 16383)) (accepts (wants 0 49153) (counts 0 0) ∷ has-room 32770 ∷ accepts (wants 1 49153) (counts 2 0) ∷ keeps 0 ∷ has-room 49153 ∷ [])
+    ∷ []
+
 -- a master holds the two sizes in their order; the stores of runs, of records and of entries; Final where 162 runs are listed, and 163
 abbrev pub stores : List Case
 stores =
@@ -427,7 +450,7 @@ master-orders =
 
 -- all of them, part by part
 abbrev pub cases : List (List Case)
-cases = sheet ∷ written ∷ laid ∷ are-read ∷ circles ∷ rested ∷ bytes ∷ stores ∷ frame-orders ∷ secondary-orders ∷ master-orders ∷ []
+cases = sheet ∷ written ∷ laid ∷ are-read ∷ circles ∷ rested ∷ bytes ∷ summed ∷ stores ∷ frame-orders ∷ secondary-orders ∷ master-orders ∷ []
 
 -- ---- each case holds
 
@@ -452,6 +475,9 @@ rested-hold = ((refl, (refl, (refl, (refl, (refl, (refl, tt)))))), ((refl, (refl
 bytes-hold : AllHold bytes
 bytes-hold = ((refl, (refl, (refl, (refl, (refl, (refl, (refl, (refl, (refl, (refl, (refl, tt))))))))))), ((refl, (refl, (refl, (refl, (refl, (refl, (refl, (refl, (refl, (refl, tt)))))))))), ((refl, (refl, (refl, (refl, (refl, (refl, (refl, (refl, (refl, (refl, (refl, tt))))))))))), ((refl, (refl, (refl, (refl, (refl, (refl, (refl, (refl, (refl, tt))))))))), ((refl, (refl, (refl, (refl, (refl, (refl, (refl, (refl, (refl, tt))))))))), ((refl, (refl, (refl, (refl, (refl, (refl, (refl, (refl, (refl, (refl, (refl, (refl, tt)))))))))))), ((refl, (refl, (refl, (refl, (refl, (refl, tt)))))), ((refl, (refl, (refl, (refl, (refl, tt))))), ((refl, (refl, (refl, (refl, (refl, tt))))), tt)))))))))
 
+summed-hold : AllHold summed
+summed-hold = ((refl, (refl, (refl, (refl, (refl, (refl, (refl, (refl, (refl, (refl, (refl, (refl, (refl, (refl, (refl, (refl, (refl, (refl, (refl, (refl, (refl, (refl, tt)))))))))))))))))))))), ((refl, (refl, (refl, (refl, (refl, (refl, (refl, (refl, (refl, tt))))))))), ((refl, (refl, (refl, (refl, (refl, (refl, (refl, (refl, (refl, (refl, (refl, (refl, (refl, (refl, tt)))))))))))))), ((refl, (refl, (refl, (refl, (refl, (refl, (refl, tt))))))), ((refl, (refl, (refl, (refl, (refl, (refl, tt)))))), ((refl, (refl, (refl, (refl, (refl, tt))))), tt))))))
+
 stores-hold : AllHold stores
 stores-hold = ((refl, refl), ((refl, refl), ((refl, refl), ((refl, refl), ((refl, refl), (refl, (refl, ((refl, refl), ((refl, refl), tt)))))))))
 
@@ -466,4 +492,4 @@ master-orders-hold = ((refl, (refl, tt)), ((refl, (refl, (refl, (refl, (refl, tt
 
 -- every case holds
 pub all-hold : PartsHold cases
-all-hold = (sheet-hold, (written-hold, (laid-hold, (are-read-hold, (circles-hold, (rested-hold, (bytes-hold, (stores-hold, (frame-orders-hold, (secondary-orders-hold, (master-orders-hold, tt)))))))))))
+all-hold = (sheet-hold, (written-hold, (laid-hold, (are-read-hold, (circles-hold, (rested-hold, (bytes-hold, (summed-hold, (stores-hold, (frame-orders-hold, (secondary-orders-hold, (master-orders-hold, tt))))))))))))

@@ -1,7 +1,7 @@
 -- What the master's machine means: every ledger that calls reach from open is as document 01 says, with 35 as request Three of document 02
--- mends it and sizes and room as request Four adds them, on packet indexes that never roll over, whatever frames were accepted on the way. Packet
--- i is the i-th accepted send. The statements are `LedgersMean`, `SendsMean`, `TakesMean` and `StatusesMean`, at the end; they are proved in
--- proofs/Master/LedgerMeans.antt.
+-- mends it, sizes and room as request Four adds them and the sum that request Five keeps, on packet indexes that never roll over, whatever frames
+-- were accepted on the way. Packet i is the i-th accepted send. The statements are `LedgersMean`, `SendsMean`, `TakesMean` and `StatusesMean`, at
+-- the end; they are proved in proofs/Master/LedgerMeans.antt.
 -- Assumes nothing.
 use mathlib.Core.Path.{_≡_}
 use mathlib.Core.Bool.{true, false, not, Bool}
@@ -11,7 +11,7 @@ use lib.ListN.{length, getD}
 use Rattle.basics.specs.Basics.{if_then_else_, done, _or_}
 use Rattle.circle.specs.Circle.{forward}
 use Rattle.frame_layout.specs.Frames.{Status, status-of, readFrame}
-use Rattle.bearer.specs.Ledger.{waiting, lost, Entry, Ledger, Accepted, Taken, openLedger, send, accept, takeOldest, room}
+use Rattle.bearer.specs.Ledger.{waiting, lost, Entry, Ledger, Accepted, Taken, openLedger, send, accept, takeOldest, room, keptRoom}
 use Rattle.bearer.specs.Packets.{numberOf, oneBefore, lastOf, packets, Rising, In, inRanges, Each}
 
 -- A master's end by its accepted calls: the PDCP numbers and the sizes of the sends (packet i is the i-th of them), how many were freed and taken,
@@ -115,6 +115,11 @@ oldestPdcp (e ∷ es) = e .pdcp
 abbrev pub fromOldest : ℕ → Ledger ℕ → Entry ℕ → ℕ
 fromOldest L l e = forward (2 ^ L) (oldestPdcp (waitingIn (l .entries))) (e .pdcp)
 
+-- the sizes of entries, added up
+abbrev pub sizesOf : List (Entry ℕ) → ℕ
+sizesOf [] = 0
+sizesOf (e ∷ es) = e .size + sizesOf es
+
 -- the sizes of packets, added up
 abbrev pub octetsOf : Books → List ℕ → ℕ
 octetsOf b [] = 0
@@ -139,6 +144,9 @@ pub record LedgerMeans (L first f : ℕ) (l : Ledger ℕ) (b : Books) : Type 0 w
   pub closed-is : l .closed ≡ b .final
   -- room is what the books say, whether the end is closed or not
   pub room-is : room l ≡ roomBy b (packets (waitingIn (l .entries)))
+  -- "the sum of waiting sizes .., proved equal to that over the entries after any calls" (request Five), so that what asking for room answers is room
+  pub octets-are : l .octets ≡ sizesOf (waitingIn (l .entries))
+  pub kept-room-is : keptRoom l ≡ room l
   -- "Each accepted send is now waiting, lost, freed or taken": the four counts sum to the accepted sends
   pub sum : length (waitingIn (l .entries)) + length (lostIn (l .entries)) + b .freed + b .taken ≡ length (b .sent)
   -- entries stand in sending order, and each bears its packet's two numbers and its size
