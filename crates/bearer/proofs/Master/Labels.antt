@@ -1,7 +1,7 @@
 -- Labels change nothing: the master's machine on entries with one kind of label, and on the same entries relabelled, gives the same answers
 -- and the same ledger relabelled. So what is proved with packets written on the entries holds of the engine's entries, which bear none.
 -- Assumes nothing.
-use mathlib.Core.Path.{_≡_, refl, sym, _∙_, ap}
+use mathlib.Core.Path.{_≡_, refl, sym, _∙_, ap, ap₂}
 use mathlib.Core.Bool.{Bool, true, false, not}
 use mathlib.Core.List.{List, [], _∷_, _++_, map}
 use mathlib.Core.Option.{Option, none, some}
@@ -14,7 +14,7 @@ use Rattle.basics.proofs.Lists.{map-take, map-drop}
 use Rattle.circle.specs.Lengths.{isLong, pdcps}
 use Rattle.frame_layout.specs.Frames.{Range, Status, Reading, data-of, status-of, refuse, readFrame}
 use Rattle.bearer.specs.Bearer.{After, refusing, answering, mostEntries}
-use Rattle.bearer.specs.Ledger.{Entry, Ledger, _with-highest_, _with-closed_, _with-sizes-of_, _with-oldest_, _with-entries_, waitingAt, holding, follows, placeWithout, newEntry, countsOf, acceptedState, takenOf, Passed, waits, bears, noteIn, afterNumber, markLost, waitsFor, kept, counted, freeThrough, freed, inOrder, isSize, send, sentState, acceptMarked, acceptReading, accept, takeAt, takeFrom, takeOldest, waitingSizes, room}
+use Rattle.bearer.specs.Ledger.{Entry, Ledger, _with-highest_, _with-closed_, _with-sizes-of_, _with-octets_, _with-oldest_, _with-entries_, waitingAt, waitingSizes, lowered, holding, follows, placeWithout, newEntry, countsOf, acceptedState, takenOf, Passed, waits, bears, noteIn, afterNumber, markLost, waitsFor, kept, counted, freeThrough, freed, inOrder, isSize, send, sentState, acceptMarked, acceptReading, accept, takeAt, takeFrom, takeOldest, room, keptRoom}
 
 module _ {A B : Type 0} (f : A → B) where
   -- an entry, a ledger, a pass and a call's outcome under other labels
@@ -63,15 +63,23 @@ module _ {A B : Type 0} (f : A → B) where
       (choice outcomeAs {t = not (ltb p (pdcps (l .bits)))} refl refl
       (choice outcomeAs {t = not (isSize z)} refl refl ordered))
 
-  -- ---- where the oldest waiting entry stands
+  -- ---- where the oldest waiting entry stands, and how much waits
 
   waiting-at-as : (es : List (Entry A)) → waitingAt (entriesAs es) ≡ waitingAt es
   waiting-at-as [] = refl
   waiting-at-as (e ∷ es) = ap (λ (n : ℕ). if waits e then 0 else suc n) (waiting-at-as es)
 
+  waiting-sizes-as : (es : List (Entry A)) → waitingSizes (entriesAs es) ≡ waitingSizes es
+  waiting-sizes-as [] = refl
+  waiting-sizes-as (e ∷ es) = ap (λ (n : ℕ). if waits e then e .size + n else n) (waiting-sizes-as es)
+
+  lowered-as : (octets : ℕ) (es ds : List (Entry A)) → lowered octets (entriesAs es) (entriesAs ds) ≡ lowered octets es ds
+  lowered-as octets es ds = ap₂ (λ (a b : ℕ). octets - (a - b)) (waiting-sizes-as es) (waiting-sizes-as ds)
+
   holding-as : (l : Ledger A) (n : ℕ) (es : List (Entry A)) → holding (relabelled l) n (entriesAs es) ≡ relabelled (holding l n es)
   holding-as l n es =
-      ap (λ (k : ℕ). l with-oldest n + k with-entries entriesAs es) (ap waitingAt (map-drop entryAs n es) ∙ waiting-at-as (drop n es))
+      ap₂ (λ (k o : ℕ). l with-oldest n + k with-octets o with-entries entriesAs es)
+      (ap waitingAt (map-drop entryAs n es) ∙ waiting-at-as (drop n es)) (lowered-as (l .octets) (l .entries) es)
 
   -- ---- accepting
 
@@ -143,9 +151,8 @@ module _ {A B : Type 0} (f : A → B) where
 
   -- ---- room
 
-  waiting-sizes-as : (es : List (Entry A)) → waitingSizes (entriesAs es) ≡ waitingSizes es
-  waiting-sizes-as [] = refl
-  waiting-sizes-as (e ∷ es) = ap (λ (n : ℕ). if waits e then e .size + n else n) (waiting-sizes-as es)
-
   pub room-as : (l : Ledger A) → room (relabelled l) ≡ room l
   room-as l = ap (λ (n : ℕ). l .desired - n) (waiting-sizes-as (l .entries))
+
+  pub kept-room-as : (l : Ledger A) → keptRoom (relabelled l) ≡ keptRoom l
+  kept-room-as l = refl
