@@ -8,6 +8,7 @@ pub mod Sound
 pub mod Takes
 pub mod Turned
 pub mod Applied
+pub mod Sums
 pub mod Sizes
 pub mod Accepts
 pub mod AcceptsAny

@@ -3,7 +3,7 @@
 ghost use mathlib.Core.Path.{_≡_};
 ghost use Rattle.basics.specs.Basics.{refused, alike};
 ghost use Rattle.circle.specs.Lengths.{isLong, lengthIn};
-ghost use Rattle.bearer.specs.Ledger.{fresh as «freshOf», openLedger, isSize, send as «sendOf», accept as «acceptOf», takeOldest, markLost, acceptStatus, acceptMarked, room as «roomOf»};
+ghost use Rattle.bearer.specs.Ledger.{fresh as «freshOf», openLedger, isSize, send as «sendOf», accept as «acceptOf», takeOldest, markLost, acceptStatus, acceptMarked, raised, keptRoom};
 ghost use Rattle.frame_reader.specs.Answers.{cursorOf, Held};
 ghost use Rattle.ledger.specs.View.{ledgerIn, openedAs, sentAs, acceptedAs, takenAs, beside, opens};
 ghost use Rattle.ledger.specs.Steps.{followsFrom, statusIn};
@@ -13,12 +13,13 @@ pub use ledger_entries::Entry;
 pub use ledger_entries::Fate;
 use ledger_entries::MOST_ENTRIES;
 
-// How many octets a PDU has at most (refusal 39).
+// How many octets a PDU has at most (refusal 39), and as many PDUs as there may be entries.
 const MOST_SIZE: u32 = 16384;
+const MOST_OCTETS: u32 = 8388608;
 
 // The master's end: the entries and how many they are, L, the next X2-U number, the highest last accepted, the last PDCP
-// number sent, whether it is closed, both sizes of the last status, and where the oldest waiting entry stands (behind all
-// where none waits).
+// number sent, whether it is closed, both sizes of the last status, the sizes of all waiting entries added up, and where the
+// oldest waiting entry stands (behind all where none waits).
 pub struct Ledger {
     pub entries: [Entry; MOST_ENTRIES],
     pub count: usize,
@@ -29,6 +30,7 @@ pub struct Ledger {
     pub closed: bool,
     pub desired: u32,
     pub minimum: u32,
+    pub octets: u32,
     pub oldest: usize,
 }
 
@@ -94,6 +96,7 @@ fn fresh(bits: u32, next: u32, highest: u32, closed: bool) -> Ledger
         closed: closed,
         desired: 0,
         minimum: 0,
+        octets: 0,
         oldest: 0,
     }
 }
@@ -141,6 +144,14 @@ fn is_size(size: u32) -> bool
     size <= MOST_SIZE
 }
 
+// A sum of waiting sizes with one more. It stops at the most that entries have together, so that it can't overflow, whatever the sum was.
+fn raise(octets: u32, size: u16) -> u32
+    ensures { λ r. ⌜ r ≡ raised octets size ⌝ }
+{
+    let size = size as u32;
+    if MOST_OCTETS - size <= octets { MOST_OCTETS } else { octets + size }
+}
+
 // Whether a PDCP number follows, seen from that of the oldest waiting entry: past the last sent, and less than half the PDCP
 // numbers past the oldest.
 fn follows(bits: u32, oldest: u32, sent: u32, pdcp: u32) -> bool
@@ -171,9 +182,7 @@ fn not_sent(l: Ledger, refusal: u32) -> Sending
 pub fn send(l: Ledger, pdcp: u32, size: u32) -> Sending
     ensures { λ r. ⌜ beside (sentAs (r .answer)) (ledgerIn (r .ledger)) ≡ «sendOf» (ledgerIn l) pdcp size tt ⌝ }
 {
-    let closed = l.closed;
-    let highest = l.highest;
-    if closed {
+    if l.closed {
         return not_sent(l, refusal::CLOSED);
     }
     if circle::pdcps(l.bits) <= pdcp {
@@ -182,7 +191,7 @@ pub fn send(l: Ledger, pdcp: u32, size: u32) -> Sending
     if !is_size(size) {
         return not_sent(l, refusal::SIZE);
     }
-    if pdcp == highest {
+    if pdcp == l.highest {
         return not_sent(l, refusal::PDCP_ORDER);
     }
     let mut after = l;
@@ -198,7 +207,9 @@ pub fn send(l: Ledger, pdcp: u32, size: u32) -> Sending
         return not_sent(l, refusal::ENTRIES);
     }
     let number = l.next;
-    after.entries[n] = ledger_entries::new_entry(number, pdcp, size as u16);
+    let octets = size as u16;
+    after.entries[n] = ledger_entries::new_entry(number, pdcp, octets);
+    after.octets = raise(l.octets, octets);
     after.count = n + 1;
     after.next = circle::onward(number, 1, circle::is_long(l.bits));
     after.sent = pdcp;
@@ -235,7 +246,7 @@ fn apply(l: Ledger, frame: &[u8], head: Head) -> Accepting
         ≡ acceptMarked (ledgerIn l) (statusIn (now (frame .entry)) head) (markLost (ledgerIn l .bits) (ledgerIn l .entries) (statusIn (now (frame .entry)) head .ranges)) ⌝ }
 {
     let es = l.entries;
-    let marked = ledger_marks::mark(es, l.count, frame, frame_reader::first_range(head));
+    let marked = ledger_marks::mark(es, l.count, l.octets, frame, frame_reader::first_range(head));
     if !marked.found {
         return not_accepted(l, refusal::NOT_WAITING);
     }
@@ -243,7 +254,7 @@ fn apply(l: Ledger, frame: &[u8], head: Head) -> Accepting
     if !ledger_entries::may_be_highest(ms, l.count, l.highest, head.highest) {
         return not_accepted(l, refusal::NO_SUCH_HIGHEST);
     }
-    let kept = ledger_entries::free_through(ms, l.count, l.highest, head.highest);
+    let kept = ledger_entries::free_through(ms, l.count, marked.octets, l.highest, head.highest);
     let rest = kept.entries;
     let oldest = ledger_entries::waiting_from(rest, kept.count, l.oldest);
     let n = basics::least(l.count, MOST_ENTRIES);
@@ -260,6 +271,7 @@ fn apply(l: Ledger, frame: &[u8], head: Head) -> Accepting
             closed: head.last,
             desired: head.desired,
             minimum: head.minimum,
+            octets: kept.octets,
             oldest: oldest,
             ..l
         },
@@ -313,6 +325,7 @@ pub fn take(l: Ledger) -> Taking
     let rest = kept.entries;
     let from = ledger_entries::place_without(at, l.oldest);
     let place = ledger_entries::waiting_from(rest, kept.count, from);
+    let octets = ledger_entries::less(l.octets, ledger_entries::waiting_size(e));
     Taking {
         answer: Taken::Packet {
             number: e.number,
@@ -322,6 +335,7 @@ pub fn take(l: Ledger) -> Taking
         ledger: Ledger {
             entries: rest,
             count: kept.count,
+            octets: octets,
             oldest: place,
             ..l
         },
@@ -331,10 +345,9 @@ pub fn take(l: Ledger) -> Taking
 // ---- room
 
 // Room: the desired size of the last accepted status less the sizes of all waiting entries; 0 where that would be negative or no
-// status has come. A closed end answers it too.
+// status has come. A closed end answers it too. It looks at the sum that is kept, and at no entry.
 pub fn room(l: Ledger) -> u32
-    ensures { λ r. ⌜ r ≡ «roomOf» (ledgerIn l) ⌝ }
+    ensures { λ r. ⌜ r ≡ keptRoom (ledgerIn l) ⌝ }
 {
-    let es = l.entries;
-    ledger_entries::less_waiting(es, l.count, l.desired)
+    ledger_entries::less(l.desired, l.octets)
 }

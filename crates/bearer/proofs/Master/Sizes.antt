@@ -5,7 +5,6 @@ use mathlib.Core.Path.{_≡_, refl, sym, _∙_, ap, ap₂}
 use mathlib.Core.Bool.{Bool, true, false}
 use mathlib.Core.List.{List, [], _∷_, _++_}
 use Prim.Native.Nat.{ℕ, _+_, _*_, _-_, _≤_, _<_}
-use native.Mathlib.Nat.{zero-add}
 use native.Mathlib.Omega.{arith}
 use lib.ListN.{length, getD, length-append, List·getD-append}
 use lib.Seq.{getD-append-seam}
@@ -16,6 +15,7 @@ use Rattle.bearer.specs.Packets.{packets, Each}
 use Rattle.bearer.specs.LedgerMeaning.{Books, waitingIn, sizesOf, octetsOf, roomBy, TurnedLost, turned-end, turns, as-it-was, FreedThrough, goes, later, is-lost, freed-end, FreedBy, frees-none, frees-through}
 use Rattle.bearer.proofs.Lists.Mapped.{each-so, each-append}
 use Rattle.bearer.proofs.Master.Applied.{each-turned}
+use Rattle.bearer.proofs.Master.Sums.{sizes-append, sizes-without}
 
 -- an entry bears its packet's size, which is within its limits
 pub record SizedAs (sizes : List ℕ) (e : Entry ℕ) : Type 0 where
@@ -96,16 +96,6 @@ room-by l b desired unheard a =
 
 -- ---- the sum that is kept
 
--- entries of two lists
-sizes-append : (xs ys : List (Entry ℕ)) → waitingSizes (xs ++ ys) ≡ waitingSizes xs + waitingSizes ys
-sizes-append [] ys = sym (zero-add (waitingSizes ys))
-sizes-append (x ∷ xs) ys = go (waits x) (sizes-append xs ys)
-  where
-    go : (w : Bool) → waitingSizes (xs ++ ys) ≡ waitingSizes xs + waitingSizes ys
-        → (if w then x .size + waitingSizes (xs ++ ys) else waitingSizes (xs ++ ys)) ≡ (if w then x .size + waitingSizes xs else waitingSizes xs) + waitingSizes ys
-    go true r = omega (arith, r)
-    go false r = r
-
 -- a send raises it to that over its entries: these stay few enough
 pub sum-raised : (sizes : List ℕ) (es : List (Entry ℕ)) (n p z a octets : ℕ) → length es < mostEntries → z ≤ mostSize → Each (SizedAs sizes) es → octets ≡ waitingSizes es
     → raised octets z ≡ waitingSizes (es ++ (newEntry n p z a ∷ []))
@@ -142,8 +132,4 @@ status-less t (frees-through g w q f) = let a = turned-less t in let b = through
 
 -- nor does a take
 pub take-less : (front : List (Entry ℕ)) (gone : Entry ℕ) (back : List (Entry ℕ)) → waitingSizes (front ++ back) ≤ waitingSizes (front ++ (gone ∷ back))
-take-less front gone back = rw (sizes-append front back, sizes-append front (gone ∷ back)) (go (waits gone))
-  where
-    go : (w : Bool) → waitingSizes front + waitingSizes back ≤ waitingSizes front + (if w then gone .size + waitingSizes back else waitingSizes back)
-    go true = omega arith
-    go false = omega arith
+take-less front gone back = omega (arith, sizes-without front gone back)

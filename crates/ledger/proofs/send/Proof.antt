@@ -32,7 +32,7 @@ bounded k = k .before .before
 
 -- the number isn't H, and how many entries are held is known
 abbrev sized : tie.After-least → tie.Else3
-sized k = k .before .before
+sized k = k .before .before .before
 
 abbrev origin : tie.After-least → tie.Start
 origin k = start (bounded (sized k) .before)
@@ -121,7 +121,7 @@ not-sent-requires-4 c κs = search needs
 
 returns-4 : tie.Need-returns-4
 returns-4 c =
-    let k = c .before .before in
+    let k = c .before .before .before in
     let a = start (bounded k .before) .args in
     c .not-sent4 .ensures ∙ sym (send-order (fit k) (order-highest (ledgerIn (a .l)) (a .pdcp) (c .before .if4 .taken)))
 
@@ -158,8 +158,8 @@ returns-6 c =
     c .not-sent6 .ensures ∙ sym (send-full (fit (sized n)) (ordered j) (omega (arith, count n, c .before .if7 .taken)))
 
 -- a size within its limits loses nothing
-cast-new-entry : tie.Need-cast-new-entry
-cast-new-entry c =
+cast-octets : tie.Need-cast-octets
+cast-octets c =
     let z = origin (c .before .before) .args .size in
     let limits = and-true (leb 1 z) (leb z mostSize) (fit (sized (c .before .before)) .sized) in
     record { fits = omega (arith, leb-true z mostSize (limits .1)) }
@@ -167,11 +167,14 @@ cast-new-entry c =
 new-entry-requires : tie.Need-new-entry-requires
 new-entry-requires c κs = search needs
 
-mul-t14 : tie.Need-mul-t14
-mul-t14 c = search needs
+mul-t13 : tie.Need-mul-t13
+mul-t13 c = search needs
 
 element-set-from-after : tie.Need-element-set-from-after
 element-set-from-after c = search needs
+
+raise-requires : tie.Need-raise-requires
+raise-requires c κs = search needs
 
 add-after : tie.Need-add-after
 add-after c = search needs
@@ -184,14 +187,15 @@ onward-requires c κs = search needs
 
 returns-7 : tie.Need-returns-7
 returns-7 c =
-    let e = c .before .before in
+    let r = c .before .before in
+    let e = r .before in
     let j = e .before .before in
     let n = j .before in
     let a = origin n .args in
     let free : a .l .count < mostEntries = omega (arith, e .before .if7 .left) in
     let next = c .onward .ensures ∙ ap (λ (long : Bool). (a .l .next + 1) % modulus long) (c .before .is-long .ensures) in
     let more = pushed (a .l .entries) (a .l .count) (slots n) free (e .new-entry .result) (e .new-entry .ensures) in
-    send-done (fit (sized n)) (ordered j) (omega (arith, count n)) (c .onward .result) next _ more
+    send-done (fit (sized n)) (ordered j) (omega (arith, count n)) (c .onward .result) next (r .raise .result) (r .raise .ensures) _ more
 
 pub send-spec : {M : Type 1} → statement M
 send-spec =
@@ -215,10 +219,11 @@ send-spec =
     returns-5
     not-sent-requires-6
     returns-6
-    cast-new-entry
+    cast-octets
     new-entry-requires
-    mul-t14
+    mul-t13
     element-set-from-after
+    raise-requires
     add-after
     is-long-requires
     onward-requires
