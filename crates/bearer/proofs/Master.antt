@@ -13,5 +13,6 @@ pub mod Sizes
 pub mod Accepts
 pub mod AcceptsAny
 pub mod LedgerMeans
+pub mod Unlabelled
 pub mod GivenMarks
 pub mod Given

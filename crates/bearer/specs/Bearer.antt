@@ -27,7 +27,7 @@ mostEntries = 512
 abbrev pub mostSize : ℕ
 mostSize = 16384
 
--- the most octets that the entries of a master have together
+-- the most octets that the entries of a master can have together
 abbrev pub mostOctets : ℕ
 mostOctets = mostEntries * mostSize
 

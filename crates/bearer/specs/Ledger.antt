@@ -157,7 +157,7 @@ isSize z = leb 1 z and leb z mostSize
 abbrev pub newEntry : {A : Type 0} → ℕ → ℕ → ℕ → A → Entry A
 newEntry n p z a = record { number = n; pdcp = p; size = z; fate = waiting; label = a }
 
--- a sum of waiting sizes with one more; it stops at what 512 entries of the most octets come to, which bites in no state that calls reach
+-- a sum of waiting sizes with one more; it goes no higher than the most that entries can have, which no state that calls reach would pass
 abbrev pub raised : ℕ → ℕ → ℕ
 raised octets z = min (octets + z) mostOctets
 
@@ -192,11 +192,11 @@ abbrev pub waitingSizes : {A : Type 0} → List (Entry A) → ℕ
 waitingSizes [] = 0
 waitingSizes (e ∷ es) = if waits e then e .size + waitingSizes es else waitingSizes es
 
--- a sum of waiting sizes when others take the place of entries: lowered by the sizes of what waits no longer, and not below 0
+-- a sum of waiting sizes, lowered by how much less waits among others than among entries; not below 0
 abbrev pub lowered : {A : Type 0} → ℕ → List (Entry A) → List (Entry A) → ℕ
 lowered octets es others = octets - (waitingSizes es - waitingSizes others)
 
--- a ledger with other entries, whose oldest waiting one is looked for from a place on, and with the sum that they leave
+-- a ledger with other entries: the oldest waiting one is looked for from a place on, and the sum is lowered by what waits no longer
 abbrev pub holding : {A : Type 0} → Ledger A → ℕ → List (Entry A) → Ledger A
 holding l place es = l with-oldest place + waitingAt (drop place es) with-octets lowered (l .octets) (l .entries) es with-entries es
 
@@ -335,11 +335,11 @@ takeOldest l = takeFrom l (take (takeAt (l .closed) (l .entries)) (l .entries)) 
 
 -- ---- room
 
--- room, of every state, a closed one too: the desired size of the last accepted status less the sizes of all waiting entries. A difference that
--- would be negative is 0, and so is the desired size before any status
+-- room as request Four has it, of every state, a closed one too: the desired size of the last accepted status less the sizes of all waiting
+-- entries. A difference that would be negative is 0, and so is the desired size before any status
 abbrev pub room : {A : Type 0} → Ledger A → ℕ
 room l = l .desired - waitingSizes (l .entries)
 
--- what asking for room answers: the same by the sum that is kept, without a look at the entries
+-- what asking for room answers: the desired size less the sum that is kept, which is room in every state that calls reach
 abbrev pub keptRoom : {A : Type 0} → Ledger A → ℕ
 keptRoom l = l .desired - l .octets

@@ -1,8 +1,10 @@
 // The master's ledger (MeNB end): open, send, accepting a status, take, room. The state is a struct by value; its entries stand
 // in sending order from slot 0 on (the crate ledger_entries). specs/View.antt says how a state and the answers are read.
 ghost use mathlib.Core.Path.{_≡_};
+ghost use Prim.Native.Nat.{_≤_};
 ghost use Rattle.basics.specs.Basics.{refused, alike};
 ghost use Rattle.circle.specs.Lengths.{isLong, lengthIn};
+ghost use Rattle.bearer.specs.Bearer.{mostSize};
 ghost use Rattle.bearer.specs.Ledger.{fresh as «freshOf», openLedger, isSize, send as «sendOf», accept as «acceptOf», takeOldest, markLost, acceptStatus, acceptMarked, raised, keptRoom};
 ghost use Rattle.frame_reader.specs.Answers.{cursorOf, Held};
 ghost use Rattle.ledger.specs.View.{ledgerIn, openedAs, sentAs, acceptedAs, takenAs, beside, opens};
@@ -13,8 +15,10 @@ pub use ledger_entries::Entry;
 pub use ledger_entries::Fate;
 use ledger_entries::MOST_ENTRIES;
 
-// How many octets a PDU has at most (refusal 39), and as many PDUs as there may be entries.
+// How many octets a PDU has at most (refusal 39).
 const MOST_SIZE: u32 = 16384;
+
+// How many the entries have together at most: 512 such PDUs.
 const MOST_OCTETS: u32 = 8388608;
 
 // The master's end: the entries and how many they are, L, the next X2-U number, the highest last accepted, the last PDCP
@@ -145,11 +149,14 @@ fn is_size(size: u32) -> bool
 }
 
 // A sum of waiting sizes with one more. It stops at the most that entries have together, so that it can't overflow, whatever the sum was.
-fn raise(octets: u32, size: u16) -> u32
+fn raise(octets: u32, size: u32) -> u32
+    requires { ⌜ size ≤ mostSize ⌝ }
     ensures { λ r. ⌜ r ≡ raised octets size ⌝ }
 {
-    let size = size as u32;
-    if MOST_OCTETS - size <= octets { MOST_OCTETS } else { octets + size }
+    if MOST_OCTETS - size <= octets {
+        return MOST_OCTETS;
+    }
+    octets + size
 }
 
 // Whether a PDCP number follows, seen from that of the oldest waiting entry: past the last sent, and less than half the PDCP
@@ -182,7 +189,8 @@ fn not_sent(l: Ledger, refusal: u32) -> Sending
 pub fn send(l: Ledger, pdcp: u32, size: u32) -> Sending
     ensures { λ r. ⌜ beside (sentAs (r .answer)) (ledgerIn (r .ledger)) ≡ «sendOf» (ledgerIn l) pdcp size tt ⌝ }
 {
-    if l.closed {
+    let closed = l.closed;
+    if closed {
         return not_sent(l, refusal::CLOSED);
     }
     if circle::pdcps(l.bits) <= pdcp {
@@ -207,9 +215,8 @@ pub fn send(l: Ledger, pdcp: u32, size: u32) -> Sending
         return not_sent(l, refusal::ENTRIES);
     }
     let number = l.next;
-    let octets = size as u16;
-    after.entries[n] = ledger_entries::new_entry(number, pdcp, octets);
-    after.octets = raise(l.octets, octets);
+    after.entries[n] = ledger_entries::new_entry(number, pdcp, size as u16);
+    after.octets = raise(l.octets, size);
     after.count = n + 1;
     after.next = circle::onward(number, 1, circle::is_long(l.bits));
     after.sent = pdcp;
@@ -246,7 +253,8 @@ fn apply(l: Ledger, frame: &[u8], head: Head) -> Accepting
         ≡ acceptMarked (ledgerIn l) (statusIn (now (frame .entry)) head) (markLost (ledgerIn l .bits) (ledgerIn l .entries) (statusIn (now (frame .entry)) head .ranges)) ⌝ }
 {
     let es = l.entries;
-    let marked = ledger_marks::mark(es, l.count, l.octets, frame, frame_reader::first_range(head));
+    let first = frame_reader::first_range(head);
+    let marked = ledger_marks::mark(es, l.count, l.octets, frame, first);
     if !marked.found {
         return not_accepted(l, refusal::NOT_WAITING);
     }

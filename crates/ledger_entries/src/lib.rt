@@ -163,7 +163,13 @@ pub fn may_be_highest(es: [Entry; MOST_ENTRIES], count: usize, last: u32, highes
 
 // Frees every waiting entry from the oldest through the one with this highest; none where it is the one last accepted.
 // What is kept moves down in place, and a sum of waiting sizes is lowered by each size that goes.
-pub fn free_through(es: [Entry; MOST_ENTRIES], count: usize, octets: u32, last: u32, highest: u32) -> Freed
+pub fn free_through(
+    es: [Entry; MOST_ENTRIES],
+    count: usize,
+    octets: u32,
+    last: u32,
+    highest: u32,
+) -> Freed
     ensures { λ r. ⌜ (freedOf r count ≡ freeWhile (not (eqb highest last)) highest (heldIn es count)) × (r .count ≤ min count mostEntries)
         × Lowers octets (heldIn es count) (heldIn (r .entries) (r .count)) (r .octets) ⌝ }
 {

@@ -22,13 +22,13 @@ pub struct Marked {
 }
 
 // Entries to which no range is applied yet.
-fn unmarked(es: [Entry; MOST_ENTRIES], octets: u32) -> Marked
-    ensures { λ r. ⌜ r ≡ record { entries = es; lost = 0; octets = octets; found = false } ⌝ }
+fn unmarked(es: [Entry; MOST_ENTRIES], sum: u32) -> Marked
+    ensures { λ r. ⌜ r ≡ record { entries = es; lost = 0; octets = sum; found = false } ⌝ }
 {
     Marked {
         entries: es,
         lost: 0,
-        octets: octets,
+        octets: sum,
         found: false,
     }
 }
@@ -36,13 +36,13 @@ fn unmarked(es: [Entry; MOST_ENTRIES], octets: u32) -> Marked
 // The numbers of the ranges, one after another, become lost where they are found among the waiting entries, and a sum of waiting sizes
 // is lowered by the size of each. A range ends where its distance is used up. One place goes through the entries for all the ranges,
 // so no range is walked further than the entries reach.
-pub fn mark(es: [Entry; MOST_ENTRIES], count: usize, octets: u32, frame: &[u8], first: Cursor) -> Marked
-    ensures { λ r. ⌜ ((L : ℕ) → isLong L ≡ first .long → markedAs r count ≡ markLost L (heldIn es count) (walked (now (frame .entry)) first))
-        × Lowers octets (heldIn es count) (heldIn (r .entries) count) (r .octets) ⌝ }
+pub fn mark(es: [Entry; MOST_ENTRIES], count: usize, sum: u32, frame: &[u8], from: Cursor) -> Marked
+    ensures { λ r. ⌜ ((L : ℕ) → isLong L ≡ from .long → markedAs r count ≡ markLost L (heldIn es count) (walked (now (frame .entry)) from))
+        × Lowers sum (heldIn es count) (heldIn (r .entries) count) (r .octets) ⌝ }
 {
     let n = basics::least(count, MOST_ENTRIES);
-    let mut m = unmarked(es, octets);
-    let mut at = first;
+    let mut m = unmarked(es, sum);
+    let mut at = from;
     let mut i: usize = 0;
     'ranges: loop {
         let Step::Range { start, end, rest } = frame_view::next_range(frame, at) else {
@@ -50,7 +50,7 @@ pub fn mark(es: [Entry; MOST_ENTRIES], count: usize, octets: u32, frame: &[u8], 
         };
         at = rest;
         let mut number = start;
-        let mut further = circle::distance(start, end, first.long);
+        let mut further = circle::distance(start, end, from.long);
         loop {
             if n <= i {
                 break 'ranges;
@@ -65,7 +65,7 @@ pub fn mark(es: [Entry; MOST_ENTRIES], count: usize, octets: u32, frame: &[u8], 
                     break;
                 }
                 further -= 1;
-                number = circle::onward(number, 1, first.long);
+                number = circle::onward(number, 1, from.long);
             } else {
                 i += 1;
             }

@@ -14,7 +14,7 @@ use Rattle.basics.proofs.Lists.{map-take, map-drop}
 use Rattle.circle.specs.Lengths.{isLong, pdcps}
 use Rattle.frame_layout.specs.Frames.{Range, Status, Reading, data-of, status-of, refuse, readFrame}
 use Rattle.bearer.specs.Bearer.{After, refusing, answering, mostEntries}
-use Rattle.bearer.specs.Ledger.{Entry, Ledger, _with-highest_, _with-closed_, _with-sizes-of_, _with-octets_, _with-oldest_, _with-entries_, waitingAt, waitingSizes, lowered, holding, follows, placeWithout, newEntry, countsOf, acceptedState, takenOf, Passed, waits, bears, noteIn, afterNumber, markLost, waitsFor, kept, counted, freeThrough, freed, inOrder, isSize, send, sentState, acceptMarked, acceptReading, accept, takeAt, takeFrom, takeOldest, room, keptRoom}
+use Rattle.bearer.specs.Ledger.{Entry, Ledger, _with-highest_, _with-closed_, _with-sizes-of_, _with-octets_, _with-oldest_, _with-entries_, waitingAt, waitingSizes, lowered, holding, follows, placeWithout, newEntry, countsOf, acceptedState, takenOf, Passed, waits, bears, noteIn, afterNumber, markLost, waitsFor, kept, counted, freeThrough, freed, inOrder, isSize, send, sentState, acceptMarked, acceptReading, accept, takeAt, takeFrom, takeOldest}
 
 module _ {A B : Type 0} (f : A → B) where
   -- an entry, a ledger, a pass and a call's outcome under other labels
@@ -69,7 +69,7 @@ module _ {A B : Type 0} (f : A → B) where
   waiting-at-as [] = refl
   waiting-at-as (e ∷ es) = ap (λ (n : ℕ). if waits e then 0 else suc n) (waiting-at-as es)
 
-  waiting-sizes-as : (es : List (Entry A)) → waitingSizes (entriesAs es) ≡ waitingSizes es
+  pub waiting-sizes-as : (es : List (Entry A)) → waitingSizes (entriesAs es) ≡ waitingSizes es
   waiting-sizes-as [] = refl
   waiting-sizes-as (e ∷ es) = ap (λ (n : ℕ). if waits e then e .size + n else n) (waiting-sizes-as es)
 
@@ -148,11 +148,3 @@ module _ {A B : Type 0} (f : A → B) where
       ∙ ap (λ (xs : List (Entry B)). takeFrom (relabelled l) xs (drop n (entriesAs (l .entries)))) (map-take entryAs n (l .entries))
       ∙ ap (takeFrom (relabelled l) (entriesAs (take n (l .entries)))) (map-drop entryAs n (l .entries))
       ∙ take-from-as l (take n (l .entries)) (drop n (l .entries))
-
-  -- ---- room
-
-  pub room-as : (l : Ledger A) → room (relabelled l) ≡ room l
-  room-as l = ap (λ (n : ℕ). l .desired - n) (waiting-sizes-as (l .entries))
-
-  pub kept-room-as : (l : Ledger A) → keptRoom (relabelled l) ≡ keptRoom l
-  kept-room-as l = refl

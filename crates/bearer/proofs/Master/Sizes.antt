@@ -73,7 +73,7 @@ sizes-few sizes (e ∷ es) a = go (waits e) (sizes-few sizes es (a .1)) (a .0 .w
     go false r s = omega arith
 
 -- as the rule adds them up
-pub sizes-of-entries : (es : List (Entry ℕ)) → waitingSizes es ≡ sizesOf (waitingIn es)
+pub sizes-of-entries : {A : Type 0} (es : List (Entry A)) → waitingSizes es ≡ sizesOf (waitingIn es)
 sizes-of-entries [] = refl
 sizes-of-entries (e ∷ es) = go (waits e) (sizes-of-entries es)
   where

@@ -2,7 +2,7 @@
 use mathlib.Core.Path.{_≡_, sym, _∙_, ap}
 use mathlib.Core.Bool.{Bool, true, false}
 use mathlib.Core.Logic.{⊎-elim}
-use Prim.Native.Nat.{_+_, _%_, _<_, min}
+use Prim.Native.Nat.{_+_, _%_, _≤_, _<_, min}
 use native.Mathlib.Omega.{arith}
 use borrow.Author.Tests.{leb-true, not-true, not-false}
 use lib.Dec.{leb}
@@ -157,12 +157,15 @@ returns-6 c =
     let n = j .before in
     c .not-sent6 .ensures ∙ sym (send-full (fit (sized n)) (ordered j) (omega (arith, count n, c .before .if7 .taken)))
 
--- a size within its limits loses nothing
-cast-octets : tie.Need-cast-octets
-cast-octets c =
-    let z = origin (c .before .before) .args .size in
-    let limits = and-true (leb 1 z) (leb z mostSize) (fit (sized (c .before .before)) .sized) in
-    record { fits = omega (arith, leb-true z mostSize (limits .1)) }
+-- the size is the most at most
+not-too-great : (k : tie.After-least) → origin k .args .size ≤ mostSize
+not-too-great k =
+    let z = origin k .args .size in
+    leb-true z mostSize (and-true (leb 1 z) (leb z mostSize) (fit (sized k) .sized) .1)
+
+-- so it loses nothing
+cast-new-entry : tie.Need-cast-new-entry
+cast-new-entry c = record { fits = omega (arith, not-too-great (c .before .before)) }
 
 new-entry-requires : tie.Need-new-entry-requires
 new-entry-requires c κs = search needs
@@ -174,7 +177,7 @@ element-set-from-after : tie.Need-element-set-from-after
 element-set-from-after c = search needs
 
 raise-requires : tie.Need-raise-requires
-raise-requires c κs = search needs
+raise-requires c κs = not-too-great (c .before .before .before)
 
 add-after : tie.Need-add-after
 add-after c = search needs
@@ -219,7 +222,7 @@ send-spec =
     returns-5
     not-sent-requires-6
     returns-6
-    cast-octets
+    cast-new-entry
     new-entry-requires
     mul-t13
     element-set-from-after

@@ -27,26 +27,26 @@ use Rattle.ledger_marks.proofs.mark.Statement.{statement}
 use Rattle.ledger_marks.proofs.mark.Tie as tie
 
 abbrev Inv-loop : tie.InvT-loop
-Inv-loop count octets frame first n m₀ at i₀ start end number₀ further₀ m i number further =
+Inv-loop count sum frame from n m₀ at i₀ start end number₀ further₀ m i number further =
     Reached (m .entries) count n i × (m .lost ≤ i) × (m .found ≡ false)
-    × Same (first .long) (marking (heldIn (m₀ .entries) count) i₀ (m₀ .lost) (range start end ∷ walked frame at))
+    × Same (from .long) (marking (heldIn (m₀ .entries) count) i₀ (m₀ .lost) (range start end ∷ walked frame at))
     (marking (heldIn (m .entries) count) i (m .lost) (range number end ∷ walked frame at))
-    × OnWay (first .long) number end further
+    × OnWay (from .long) number end further
     × Lowers (m₀ .octets) (heldIn (m₀ .entries) count) (heldIn (m .entries) count) (m .octets)
 
 abbrev μ-loop : tie.MeasureT-loop
-μ-loop count octets frame first n m₀ at i₀ start end number₀ further₀ m i number further = n - i
+μ-loop count sum frame from n m₀ at i₀ start end number₀ further₀ m i number further = n - i
 
 abbrev Inv-ranges : tie.InvT-ranges
-Inv-ranges count octets frame first n m₀ at₀ i₀ m at i =
+Inv-ranges count sum frame from n m₀ at₀ i₀ m at i =
     Reached (m .entries) count n i × (m .lost ≤ i) × (m .found ≡ false)
-    × Same (first .long) (marking (heldIn (m₀ .entries) count) i₀ (m₀ .lost) (walked frame at₀))
+    × Same (from .long) (marking (heldIn (m₀ .entries) count) i₀ (m₀ .lost) (walked frame at₀))
     (marking (heldIn (m .entries) count) i (m .lost) (walked frame at))
-    × (at .long ≡ first .long)
+    × (at .long ≡ from .long)
     × Lowers (m₀ .octets) (heldIn (m₀ .entries) count) (heldIn (m .entries) count) (m .octets)
 
 abbrev μ-ranges : tie.MeasureT-ranges
-μ-ranges count octets frame first n m₀ at₀ i₀ m at i = at .left
+μ-ranges count sum frame from n m₀ at₀ i₀ m at i = at .left
 
 -- ---- the places of the code, each from the one below it
 
@@ -110,7 +110,7 @@ went-on : (k : Range-read) → Went (octets (ranges k)) (ranges k .ranges .at) (
 went-on k = went (octets (ranges k)) (ranges k .ranges .at) (answered k)
 
 -- its numbers are on the circle of the form
-on-way : (k : tie.After-distance Inv-loop μ-loop Inv-ranges μ-ranges) → OnWay (start (ranges (k .before)) .args .first .long) (first-of (k .before)) (last-of (k .before)) (k .distance .result)
+on-way : (k : tie.After-distance Inv-loop μ-loop Inv-ranges μ-ranges) → OnWay (start (ranges (k .before)) .args .from .long) (first-of (k .before)) (last-of (k .before)) (k .distance .result)
 on-way k =
     let o = ranges (k .before) in
     let in-both = within (octets o) (o .ranges .at) (record { at = λ i. o .before .before .before .shared-slice-known .given i .fits }) (answered (k .before)) in
@@ -123,22 +123,22 @@ begun k = k .before .unmarked .result
 
 -- the whole pass
 abbrev whole : At-ranges → ℕ → Option (Passed Unit)
-whole k = marking (heldIn (begun k .entries) (start k .args .count)) 0 (begun k .lost) (walked (octets k) (start k .args .first))
+whole k = marking (heldIn (begun k .entries) (start k .args .count)) 0 (begun k .lost) (walked (octets k) (start k .args .from))
 
 -- it is that over the entries that were handed in
-whole-is : (k : At-ranges) (L : ℕ) → markLost L (heldIn (start k .args .es) (start k .args .count)) (walked (octets k) (start k .args .first)) ≡ whole k L
+whole-is : (k : At-ranges) (L : ℕ) → markLost L (heldIn (start k .args .es) (start k .args .count)) (walked (octets k) (start k .args .from)) ≡ whole k L
 whole-is k L =
-    let rs = walked (octets k) (start k .args .first) in
+    let rs = walked (octets k) (start k .args .from) in
     marking-none (heldIn (start k .args .es) (start k .args .count)) rs L
     ∙ ap (λ (m : Marked). marking (heldIn (m .entries) (start k .args .count)) 0 (m .lost) rs L) (sym (k .before .unmarked .ensures))
 
 -- and so is the sum
 lowers-is : (k : At-ranges) {xs : List (Entry Unit)} {left : ℕ} → Lowers (begun k .octets) (heldIn (begun k .entries) (start k .args .count)) xs left
-    → Lowers (start k .args .octets) (heldIn (start k .args .es) (start k .args .count)) xs left
+    → Lowers (start k .args .sum) (heldIn (start k .args .es) (start k .args .count)) xs left
 lowers-is k {xs} {left} f = subst (λ (m : Marked). Lowers (m .octets) (heldIn (m .entries) (start k .args .count)) xs left) (k .before .unmarked .ensures) f
 
 -- what the outer loop's turn has left to do comes to that, and so does what the inner loop's turn has
-still : (k : At-numbers) → Same (start (ranges (reading k)) .args .first .long) (whole (ranges (reading k)))
+still : (k : At-numbers) → Same (start (ranges (reading k)) .args .from .long) (whole (ranges (reading k)))
     (marking (heldIn (k .loop .m .entries) (start (ranges (reading k)) .args .count)) (k .loop .i) (k .loop .m .lost) (range (k .loop .number) (last-of (reading k)) ∷ walked (octets (ranges (reading k))) (behind (reading k))))
 still k L form =
     let o = ranges (reading k) in
@@ -175,7 +175,7 @@ returns c =
     let es = heldIn (p .ranges .m .entries) (start p .args .count) in
     let none-left = met-none (octets p) (p .ranges .at) (sym (told .before .before .next-range .ensures) ∙ told .enum-told .given .1) in (
       λ L form. sym (whole-is p L ∙ v .3 L form
-      ∙ ap (λ (rs : List Range). marking es (p .ranges .i) (p .ranges .m .lost) rs L) none-left ∙ all-found es (p .ranges .i) (p .ranges .m .lost) L),
+          ∙ ap (λ (rs : List Range). marking es (p .ranges .i) (p .ranges .m .lost) rs L) none-left ∙ all-found es (p .ranges .i) (p .ranges .m .lost) L),
       lowers-is p (v .5),
     )
 
