@@ -190,6 +190,7 @@ pub fn send(l: Ledger, pdcp: u32, size: u32) -> Sending
     ensures { λ r. ⌜ beside (sentAs (r .answer)) (ledgerIn (r .ledger)) ≡ «sendOf» (ledgerIn l) pdcp size tt ⌝ }
 {
     let closed = l.closed;
+    let highest = l.highest;
     if closed {
         return not_sent(l, refusal::CLOSED);
     }
@@ -199,7 +200,7 @@ pub fn send(l: Ledger, pdcp: u32, size: u32) -> Sending
     if !is_size(size) {
         return not_sent(l, refusal::SIZE);
     }
-    if pdcp == l.highest {
+    if pdcp == highest {
         return not_sent(l, refusal::PDCP_ORDER);
     }
     let mut after = l;
@@ -214,14 +215,13 @@ pub fn send(l: Ledger, pdcp: u32, size: u32) -> Sending
     if MOST_ENTRIES <= n {
         return not_sent(l, refusal::ENTRIES);
     }
-    let number = l.next;
-    after.entries[n] = ledger_entries::new_entry(number, pdcp, size as u16);
+    after.entries[n] = ledger_entries::new_entry(l.next, pdcp, size as u16);
     after.octets = raise(l.octets, size);
     after.count = n + 1;
-    after.next = circle::onward(number, 1, circle::is_long(l.bits));
+    after.next = circle::onward(l.next, 1, circle::is_long(l.bits));
     after.sent = pdcp;
     Sending {
-        answer: Sent::Number(number),
+        answer: Sent::Number(l.next),
         ledger: after,
     }
 }

@@ -32,7 +32,7 @@ bounded k = k .before .before
 
 -- the number isn't H, and how many entries are held is known
 abbrev sized : tie.After-least → tie.Else3
-sized k = k .before .before .before
+sized k = k .before .before
 
 abbrev origin : tie.After-least → tie.Start
 origin k = start (bounded (sized k) .before)
@@ -121,7 +121,7 @@ not-sent-requires-4 c κs = search needs
 
 returns-4 : tie.Need-returns-4
 returns-4 c =
-    let k = c .before .before .before in
+    let k = c .before .before in
     let a = start (bounded k .before) .args in
     c .not-sent4 .ensures ∙ sym (send-order (fit k) (order-highest (ledgerIn (a .l)) (a .pdcp) (c .before .if4 .taken)))
 
