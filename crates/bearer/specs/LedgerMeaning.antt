@@ -231,7 +231,7 @@ pub data CallsReach (L first f : ℕ) : Ledger Unit → Type 0 where
 abbrev pub unlabelled : {A : Type 0} → Entry A → Entry Unit
 unlabelled e = record { number = e .number; pdcp = e .pdcp; size = e .size; fate = e .fate; label = tt }
 
--- It is a ledger that the accepted calls among them reach, without its labels: so all that is said of that one's figures is said of it.
+-- Such a ledger is one that accepted calls reach, without its labels: so what is said of that one's figures holds of it.
 pub record Unlabelled (L first f : ℕ) (l : Ledger Unit) : Type 0 where
   pub labelled : Ledger ℕ
   pub books : Books

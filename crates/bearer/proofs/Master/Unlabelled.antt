@@ -1,4 +1,4 @@
--- Ledgers without labels, as the engine holds them: after any calls each is one that its accepted calls reach, without its labels (Labels.antt), and so
+-- Ledgers without labels, as the engine holds them: after any calls each is one that accepted calls reach, without its labels (Labels.antt), and so
 -- its sum is that over its entries.
 -- Assumes nothing.
 use mathlib.Core.Path.{_≡_, refl, sym, _∙_, ap}
