@@ -54,14 +54,17 @@ module _ {A B : Type 0} (f : A → B) where
       ap (λ (b : Bool). not (eqb p (l .highest)) and b)
       (ap (follows (relabelled l) p) (map-drop entryAs (l .oldest) (l .entries)) ∙ follows-as l p (drop (l .oldest) (l .entries)))
 
+  sent-as : (l : Ledger A) (p z : ℕ) (a : A) → sentState (relabelled l) p z (f a) ≡ relabelled (sentState l p z a)
+  sent-as l p z a = ap (λ (es : List (Entry B)). sentState l p z a with-entries es) (sym (entries-append (l .entries) (newEntry (l .next) p z a ∷ [])))
+
   pub send-as : (l : Ledger A) (p z : ℕ) (a : A) → send (relabelled l) p z (f a) ≡ outcomeAs (send l p z a)
   send-as l p z a =
-      let sent = ap (λ (es : List (Entry B)). answering (l .next) (sentState l p z a with-entries es)) (sym (entries-append (l .entries) (newEntry (l .next) p z a ∷ []))) in
-      let stored = choice outcomeAs {u = refusing 36 l} {v = answering (l .next) (sentState l p z a)} (ap (leb mostEntries) (length-map (l .entries) entryAs)) refl sent in
-      let ordered = choice outcomeAs {u = refusing 35 l} (ap not (order-as l p)) refl stored in
-      choice outcomeAs {t = l .closed} refl refl
-      (choice outcomeAs {t = not (ltb p (pdcps (l .bits)))} refl refl
-      (choice outcomeAs {t = not (isSize z)} refl refl ordered))
+      choice outcomeAs {t = l .closed} {u = refusing 9 l} refl refl
+      (choice outcomeAs {t = not (ltb p (pdcps (l .bits)))} {u = refusing 10 l} refl refl
+      (choice outcomeAs {t = not (isSize z)} {u = refusing 39 l} refl refl
+      (choice outcomeAs {u = refusing 35 l} (ap not (order-as l p)) refl
+      (choice outcomeAs {u = refusing 36 l} {v = answering (l .next) (sentState l p z a)} (ap (leb mostEntries) (length-map (l .entries) entryAs)) refl
+      (ap (answering (l .next)) (sent-as l p z a))))))
 
   -- ---- where the oldest waiting entry stands, and how much waits
 
