@@ -13,7 +13,7 @@ use Rattle.bearer.specs.Keeper as K
 use Rattle.bearer.specs.Keeper.{_with-closed_, _with-runs_, _with-records_}
 use Rattle.bearer.specs.Ledger as G
 use Rattle.bearer.specs.Ledger.{_with-sent_, _with-octets_, _with-oldest_, _with-entries_}
-use Rattle.bearer.specs.Rule.{below}
+use Rattle.bearer.specs.Account.{packetsFrom}
 
 -- a call on a secondary, and what it answers
 pub data Call : Type 0 where
@@ -149,7 +149,7 @@ over-rollover cs = arrives 65534 4095 (done 0) ∷ arrives 0 1 (done 0) ∷ expi
 
 -- so many runs of one number
 abbrev pub runs : ℕ → List Range
-runs n = map (λ (i : ℕ). 2 * i to 2 * i) (below n)
+runs n = map (λ (i : ℕ). 2 * i to 2 * i) (packetsFrom 0 n)
 
 -- a secondary that lists so many runs
 abbrev pub listing : ℕ → K.Keeper
@@ -161,7 +161,7 @@ listing-long n = K.freshKeeper 18 1000 1 with-runs runs n
 
 -- so many records
 abbrev pub records : ℕ → List K.Record
-records n = map (λ (i : ℕ). K.newRecord i i) (below n)
+records n = map (λ (i : ℕ). K.newRecord i i) (packetsFrom 0 n)
 
 -- a secondary that holds so many records
 abbrev pub recording : ℕ → K.Keeper
@@ -173,7 +173,7 @@ sends p a = puts p 1 a
 
 -- a master that holds so many entries of 16,384 octets each, and their sum
 abbrev pub filled : ℕ → G.Ledger Unit
-filled n = G.freshLedger {A = Unit} 12 1000 1 with-sent 999 with-octets n * 16384 with-entries map (λ (i : ℕ). G.newEntry i i 16384 tt) (below n)
+filled n = G.freshLedger {A = Unit} 12 1000 1 with-sent 999 with-octets n * 16384 with-entries map (λ (i : ℕ). G.newEntry i i 16384 tt) (packetsFrom 0 n)
 
 -- two ranges of the short form, and a frame that bears them
 abbrev pub two-short : List Range
