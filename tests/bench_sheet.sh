@@ -1,7 +1,7 @@
 #!/usr/bin/env bash
-# Document 01's bench sheet as requests One, Three and Four left it, played call by call on the proved engines by replay: the cases of
-# tests/calls/, a bearer that rested, sizes and room, and what docs/LIMITS.md says among them, 163 listed runs, half a circle of packets, a full
-# ledger, also of the largest PDUs, and a hundred rests.
+# Document 01's bench sheet as requests One and Three to Five left it, played call by call on the proved engines by replay: the cases of
+# tests/calls/, a bearer that rested, sizes, room, the sum of what waits, and what docs/LIMITS.md says among them, 163 listed runs, half a
+# circle of packets, a full ledger, also of the largest PDUs, and a hundred rests.
 set -u
 cd "$(dirname "$0")/.."
 passed=0
@@ -23,6 +23,13 @@ play() {
     diff "$work/wanted" "$work/out" | head -n 6
   fi
   : >"$work/calls"
+}
+
+# entries FATE SIZE NUMBER..: entries of one fate and size as `ledger` lists them, each with its number as its PDCP number
+entries() {
+  local like="$1:$2" n
+  shift 2
+  for n; do echo "$n:$n:$like"; done | paste -sd ,
 }
 
 # the cases of each file, each behind its heading
@@ -72,7 +79,7 @@ awk 'BEGIN {
     printf "room = room 0\nstatus 7 6 0 14 = frame %s\naccept %s = freed 256 lost 0 final 0\nroom = room 7\n", frame, frame
   }
   print "keeper = keeper 32768 32767 0 none none"
-  print "ledger = ledger 32768 32767 32767 0 7 6 none"
+  print "ledger = ledger 32768 32767 32767 0 7 6 0 none"
   print "arrive 0 0 = refused 18"
   print "arrive 1 1 = refused 11"
   print "send 0 6 = sent 32768\nroom = room 1\narrive 32768 0 = lost 0\nconfirm 32768 = ok"
@@ -93,17 +100,23 @@ play "half a circle of packets"
   echo "status 7 6 0 14 = frame 107fff0000000700000006000000"
   echo "accept 107fff0000000700000006000000 = freed 0 lost 0 final 0"
   echo "send 16383 1 = refused 36"
+  echo "ledger = ledger 512 32767 511 0 7 6 512 $(entries w 1 $(seq 0 511))"
   echo "accept 117fff000000070000000601000001ff0000 = freed 0 lost 512 final 0"
+  echo "ledger = ledger 512 32767 511 0 7 6 0 $(entries l 1 $(seq 0 511))"
   printf '%s\n' "send 32768 1 = refused 10" "send 32767 1 = refused 35" "send 16384 1 = refused 36" "send 16384 0 = refused 39"
   printf '%s\n' "room = room 7" "take = taken 0 0 1" "room = room 7" "send 16384 6 = sent 512" "room = room 1"
 } >"$work/calls"
 play "a full ledger"
 
 # A full ledger of the largest PDUs, 8,388,608 octets: one less desired than waits, as much, one more, and the most; with every second one lost;
-# with all but the last freed; and once a Final has closed it, what it gives out
+# with all but the last freed; and once a Final has closed it, what it gives out. The sum without the last send and with it, and of the closed end
 {
   echo "open 15 0 0 = ok"
-  for p in $(seq 0 511); do echo "send $p 16384 = sent $p"; done
+  for p in $(seq 0 510); do echo "send $p 16384 = sent $p"; done
+  echo "ledger = ledger 511 32767 510 0 0 0 8372224 $(entries w 16384 $(seq 0 510))"
+  echo "send 511 16384 = sent 511"
+  echo "send 512 1 = refused 36"
+  echo "ledger = ledger 512 32767 511 0 0 0 8388608 $(entries w 16384 $(seq 0 511))"
   for case in 7fffff=0 800000=0 800001=1; do echo "accept 107fff00${case%=*}00000006000000 = freed 0 lost 0 final 0"; echo "room = room ${case#*=}"; done
   echo "accept 107fffffffffff00000006000000 = freed 0 lost 0 final 0"
   echo "room = room 4286578687"
@@ -114,10 +127,23 @@ play "a full ledger"
   echo "room = room 1"
   echo "accept 1201fe0000400000000006000000 = freed 0 lost 0 final 1"
   echo "room = room 0"
+  echo "ledger = ledger 512 510 511 1 16384 6 16384 $(entries l 16384 $(seq 0 2 322)),$(entries w 16384 511)"
   for p in $(seq 0 2 322); do printf '%s\n' "take = taken $p $p 16384" "room = room 0"; done
+  echo "ledger = ledger 512 510 511 1 16384 6 16384 $(entries w 16384 511)"
   printf '%s\n' "take = taken 511 511 16384" "room = room 16384" "take = refused 38" "room = room 16384"
+  echo "ledger = ledger 512 510 511 1 16384 6 0 none"
 } >"$work/calls"
 play "a full ledger of the largest PDUs"
+
+# The same, and one frame frees all of it
+{
+  echo "open 15 0 0 = ok"
+  for p in $(seq 0 511); do echo "send $p 16384 = sent $p"; done
+  echo "accept 1001ff0000000000000006000000 = freed 512 lost 0 final 0"
+  echo "ledger = ledger 512 511 511 0 0 6 0 none"
+  echo "room = room 0"
+} >"$work/calls"
+play "the largest PDUs, freed at once"
 
 # A bearer that rests a hundred times: before each pair of packets over X2 a part of the PDCP circle goes over the master alone, from none of
 # it to nearly twice around. The first of the pair is lost, reported, and left with the master. What bears H is refused, and goes there too
@@ -136,7 +162,7 @@ for bits in 12 15 18; do
       printf "send %d 1 = sent %d\narrive %d %d = lost 0\nexpire = lost 1\nconfirm %d = ok\n", p, n, n, p, n
       printf "status 7 6 0 1018 = frame " frame "\naccept " frame " = freed 1 lost 1 final 0\nroom = room 7\n", p, first, first, p, first, first
       highest = p; n = (n + 1) % m
-      printf "ledger = ledger %d %d %d 0 7 6 %s\n", n, highest, highest, lost
+      printf "ledger = ledger %d %d %d 0 7 6 0 %s\n", n, highest, highest, lost
       lost = lost ","
       rest = i % 10 == 4 ? size - 2 : i % 10 == 9 ? size - 1 : int(i * size / 51)
       p = (p + 1 + rest) % size

@@ -12,8 +12,8 @@ use Rattle.frame_layout.specs.Frames.{Range, Status, Reading, data-of, status-o
 use Rattle.bearer.specs.Keeper as K
 use Rattle.bearer.specs.Keeper.{_with-closed_, _with-runs_, _with-records_}
 use Rattle.bearer.specs.Ledger as G
-use Rattle.bearer.specs.Ledger.{_with-sent_, _with-entries_}
-use Rattle.bearer.specs.Rule.{below}
+use Rattle.bearer.specs.Ledger.{_with-sent_, _with-octets_, _with-oldest_, _with-entries_}
+use Rattle.bearer.specs.Account.{packetsFrom}
 
 -- a call on a secondary, and what it answers
 pub data Call : Type 0 where
@@ -32,8 +32,12 @@ pub data Turn : Type 0 where
   -- octets are accepted
   accepts : List ℕ → Outcome G.Accepted → Turn
   takes : Outcome G.Taken → Turn
-  -- room is asked for
+  -- room is asked for, and the answer is room as request Four has it
   has-room : ℕ → Turn
+  -- room is asked for, in a state that no call reaches
+  answers-room : ℕ → Turn
+  -- so much waits, by the sum that is kept
+  keeps : ℕ → Turn
 
 -- a case
 pub data Case : Type 0 where
@@ -92,7 +96,9 @@ TurnsAnswered l [] = Unit
 TurnsAnswered l (puts p z a ∷ ts) = (G.send l p z tt .answer ≡ a) × TurnsAnswered (G.send l p z tt .state) ts
 TurnsAnswered l (accepts o a ∷ ts) = (G.accept l o .answer ≡ a) × TurnsAnswered (G.accept l o .state) ts
 TurnsAnswered l (takes a ∷ ts) = (G.takeOldest l .answer ≡ a) × TurnsAnswered (G.takeOldest l .state) ts
-TurnsAnswered l (has-room n ∷ ts) = (G.room l ≡ n) × TurnsAnswered l ts
+TurnsAnswered l (has-room n ∷ ts) = (G.keptRoom l ∷ G.room l ∷ [] ≡ n ∷ n ∷ []) × TurnsAnswered l ts
+TurnsAnswered l (answers-room n ∷ ts) = (G.keptRoom l ≡ n) × TurnsAnswered l ts
+TurnsAnswered l (keeps n ∷ ts) = (l .octets ≡ n) × TurnsAnswered l ts
 
 -- what is said of an end, which was opened
 abbrev pub Of : {A : Type 0} → Outcome A → (A → Type 0) → Type 0
@@ -143,7 +149,7 @@ over-rollover cs = arrives 65534 4095 (done 0) ∷ arrives 0 1 (done 0) ∷ expi
 
 -- so many runs of one number
 abbrev pub runs : ℕ → List Range
-runs n = map (λ (i : ℕ). 2 * i to 2 * i) (below n)
+runs n = map (λ (i : ℕ). 2 * i to 2 * i) (packetsFrom 0 n)
 
 -- a secondary that lists so many runs
 abbrev pub listing : ℕ → K.Keeper
@@ -155,7 +161,7 @@ listing-long n = K.freshKeeper 18 1000 1 with-runs runs n
 
 -- so many records
 abbrev pub records : ℕ → List K.Record
-records n = map (λ (i : ℕ). K.newRecord i i) (below n)
+records n = map (λ (i : ℕ). K.newRecord i i) (packetsFrom 0 n)
 
 -- a secondary that holds so many records
 abbrev pub recording : ℕ → K.Keeper
@@ -165,9 +171,9 @@ recording n = K.freshKeeper 12 1000 1 with-records records n
 abbrev pub sends : ℕ → Outcome ℕ → Turn
 sends p a = puts p 1 a
 
--- a master that holds so many entries of 16,384 octets each
+-- a master that holds so many entries of 16,384 octets each, and their sum
 abbrev pub filled : ℕ → G.Ledger Unit
-filled n = G.freshLedger {A = Unit} 12 1000 1 with-sent 999 with-entries map (λ (i : ℕ). G.newEntry i i 16384 tt) (below n)
+filled n = G.freshLedger {A = Unit} 12 1000 1 with-sent 999 with-octets n * 16384 with-entries map (λ (i : ℕ). G.newEntry i i 16384 tt) (packetsFrom 0 n)
 
 -- two ranges of the short form, and a frame that bears them
 abbrev pub two-short : List Range
@@ -209,6 +215,14 @@ lost-only n = 0x11 ∷ 0x0F ∷ 0xFF ∷ one-range n
 abbrev pub desiring : ℕ → List ℕ
 desiring d = d / 16777216 ∷ d / 65536 % 256 ∷ d / 256 % 256 ∷ d % 256 ∷ 0 ∷ 0 ∷ 0 ∷ 7 ∷ []
 
+-- a frame of the short form with a first octet, a highest, the range of the numbers from a through b, and a desired size
+abbrev pub loses-from : ℕ → ℕ → ℕ → ℕ → ℕ → List ℕ
+loses-from o h a b d = o ∷ h / 256 ∷ h % 256 ∷ desiring d ++ (0x01 ∷ 0x00 ∷ a ∷ 0x00 ∷ b ∷ 0x00 ∷ 0x00 ∷ [])
+
+-- one that names a number, with a highest and a desired size
+abbrev pub loses-under : ℕ → ℕ → ℕ → List ℕ
+loses-under h n d = loses-from 0x11 h n n d
+
 -- a frame of the short form with a highest and a desired size; one with Final, and one that names a number, both with the highest 4095
 abbrev pub wants : ℕ → ℕ → List ℕ
 wants h d = 0x10 ∷ h / 256 ∷ h % 256 ∷ desiring d ++ replicate 3 0
@@ -217,7 +231,7 @@ abbrev pub ends : ℕ → List ℕ
 ends d = 0x12 ∷ 0x0F ∷ 0xFF ∷ desiring d ++ replicate 3 0
 
 abbrev pub loses : ℕ → ℕ → List ℕ
-loses n d = 0x11 ∷ 0x0F ∷ 0xFF ∷ desiring d ++ (0x01 ∷ 0x00 ∷ n ∷ 0x00 ∷ n ∷ 0x00 ∷ 0x00 ∷ [])
+loses n d = loses-under 4095 n d
 
 -- a status by which so many were freed and so many became lost, one with Final that did neither, and what was taken, of one octet and of others
 abbrev pub counts : ℕ → ℕ → Outcome G.Accepted
@@ -354,6 +368,42 @@ bytes =
     ∷ turns (done (filled 512)) (has-room 0 ∷ accepts (wants 0 4294967295) (counts 0 0) ∷ has-room 4286578687 ∷ accepts (wants 0 8388608) (counts 0 0) ∷ has-room 0 ∷ [])
     ∷ []
 
+-- the sum of the waiting sizes (request Five)
+abbrev pub summed : List Case
+summed =
+    -- a send raises it, what becomes lost lowers it and its take doesn't, what is freed lowers it; refused calls don't, nor a frame that frees none
+    turns (G.openLedger 12 0 0) (keeps 0 ∷ puts 0 100 (done 0) ∷ puts 1 50 (done 1) ∷ puts 2 7 (done 2) ∷ puts 3 16384 (done 3) ∷ keeps 16541 ∷ puts 4 16385 (refused 39) ∷ puts 3 5 (refused 35) ∷ accepts (loses 9 900) (refused 33) ∷ accepts (loses-under 9 1 900) (refused 34) ∷ takes (refused 38) ∷ keeps 16541 ∷ accepts (loses 1 900) (counts 0 1) ∷ keeps 16491 ∷ takes (taken-of 1 1 50) ∷ keeps 16491 ∷ accepts (wants 0 900) (counts 1 0) ∷ keeps 16391 ∷ accepts (wants 0 900) (counts 0 0) ∷ keeps 16391 ∷ accepts (wants 3 900) (counts 2 0) ∷ keeps 0 ∷ [])
+    -- one frame by which an entry is lost between two that are freed
+    ∷ turns (G.openLedger 12 0 0) (puts 0 100 (done 0) ∷ puts 1 50 (done 1) ∷ puts 2 7 (done 2) ∷ puts 3 3 (done 3) ∷ accepts (loses-under 2 1 900) (counts 2 1) ∷ keeps 3 ∷ has-room 897 ∷ takes (taken-of 1 1 50) ∷ keeps 3 ∷ [])
+    -- three lost by two ranges, and passed over when what stands behind them is freed; a list that is refused changes nothing, though it names what waits
+    ∷ turns (G.openLedger 12 0 0) (puts 0 1 (done 0) ∷ puts 1 20 (done 1) ∷ puts 2 300 (done 2) ∷ puts 3 4000 (done 3) ∷ puts 4 16384 (done 4) ∷ puts 5 7 (done 5) ∷ accepts (loses-from 0x11 4095 1 9 900) (refused 33) ∷ keeps 20712 ∷ accepts (0x11 ∷ 0x0F ∷ 0xFF ∷ desiring 900 ++ (0x02 ∷ 0x00 ∷ 1 ∷ 0x00 ∷ 2 ∷ 0x00 ∷ 4 ∷ 0x00 ∷ 4 ∷ 0x00 ∷ 0x00 ∷ [])) (counts 0 3) ∷ keeps 4008 ∷ accepts (wants 0 0) (counts 1 0) ∷ keeps 4007 ∷ accepts (wants 3 900) (counts 1 0) ∷ keeps 7 ∷ takes (taken-of 1 1 20) ∷ takes (taken-of 2 2 300) ∷ takes (taken-of 4 4 16384) ∷ keeps 7 ∷ has-room 893 ∷ [])
+    -- a closed end's take lowers it by a waiting entry, and not by a lost one; a refused take doesn't
+    ∷ turns (G.openLedger 12 0 0) (puts 0 100 (done 0) ∷ puts 1 50 (done 1) ∷ puts 2 7 (done 2) ∷ accepts (loses 1 900) (counts 0 1) ∷ accepts (ends 900) ended ∷ keeps 107 ∷ takes (taken-of 0 0 100) ∷ keeps 7 ∷ takes (taken-of 1 1 50) ∷ keeps 7 ∷ takes (taken-of 2 2 7) ∷ keeps 0 ∷ takes (refused 38) ∷ keeps 0 ∷ [])
+    -- a Final by which one is freed and one becomes lost; a closed end's refused calls
+    ∷ turns (G.openLedger 12 0 0) (puts 0 1 (done 0) ∷ puts 1 20 (done 1) ∷ puts 2 300 (done 2) ∷ puts 3 16384 (done 3) ∷ accepts (loses-from 0x13 0 1 1 900) (done (record { freed = 1; lost = 1; final = true })) ∷ keeps 16684 ∷ puts 4 5 (refused 9) ∷ accepts (wants 0 5) (refused 9) ∷ keeps 16684 ∷ takes (taken-of 1 1 20) ∷ takes (taken-of 2 2 300) ∷ keeps 16384 ∷ takes (taken-of 3 3 16384) ∷ keeps 0 ∷ [])
+    -- the long form, and a range over the rollover
+    ∷ turns (G.openLedger 18 16777215 0) (puts 0 1 (done 16777215) ∷ puts 1 20 (done 0) ∷ puts 2 300 (done 1) ∷ puts 3 4000 (done 2) ∷ accepts (0x21 ∷ 0x03 ∷ 0xFF ∷ 0xFF ∷ desiring 900 ++ (0x01 ∷ 0xFF ∷ 0xFF ∷ 0xFF ∷ 0x00 ∷ 0x00 ∷ 0x00 ∷ 0x00 ∷ 0x00 ∷ 0x00 ∷ [])) (counts 0 2) ∷ keeps 4300 ∷ accepts (0x22 ∷ 0x00 ∷ 0x00 ∷ 0x02 ∷ desiring 900 ++ replicate 2 0) (done (record { freed = 1; lost = 0; final = true })) ∷ keeps 4000 ∷ takes (taken-of 16777215 0 1) ∷ takes (taken-of 0 1 20) ∷ keeps 4000 ∷ takes (taken-of 2 3 4000) ∷ keeps 0 ∷ [])
+    -- the most that waits, and all of it freed
+    ∷ turns (done (filled 511)) (keeps 8372224 ∷ puts 1000 16384 (done 1000) ∷ keeps 8388608 ∷ accepts (wants 1000 0) (counts 512 0) ∷ keeps 0 ∷ [])
+    -- a full master's refused send, where the sum is below the most; other refused calls
+    ∷ turns (done (filled 511)) (puts 1000 1 (done 1000) ∷ keeps 8372225 ∷ puts 1001 1 (refused 36) ∷ keeps 8372225 ∷ [])
+    ∷ turns (G.openLedger 12 0 0) (puts 0 16384 (done 0) ∷ puts 4096 5 (refused 10) ∷ accepts (wants 4096 5) (refused 32) ∷ accepts [] (refused 1) ∷ keeps 16384 ∷ [])
+    ∷ []
+
+-- the sum in states that no call reaches
+abbrev pub summed-anyhow : List Case
+summed-anyhow =
+    -- a send stops at the most
+    turns (done (G.freshLedger 12 0 0 with-octets 4294967295)) (puts 0 1 (done 0) ∷ keeps 8388608 ∷ accepts (wants 4095 8388609) (counts 0 0) ∷ answers-room 1 ∷ accepts (loses 0 8388609) (counts 0 1) ∷ keeps 8388607 ∷ [])
+    ∷ turns (done (G.freshLedger 12 0 0 with-octets 8388607)) (puts 0 16384 (done 0) ∷ keeps 8388608 ∷ [])
+    -- a sum above it is lowered from where it is, and one too small stops at 0, on a status and on a closed end's take; room goes by the sum, whatever waits
+    ∷ turns (done (filled 1 with-octets 4294967295)) (accepts (wants 0 4294967295) (counts 0 0) ∷ keeps 4294967295 ∷ answers-room 0 ∷ accepts (loses-from 0x13 0 0 0 4294967295) (done (record { freed = 0; lost = 1; final = true })) ∷ keeps 4294950911 ∷ answers-room 16384 ∷ takes (taken-of 0 0 16384) ∷ keeps 4294950911 ∷ answers-room 16384 ∷ [])
+    ∷ turns (done (filled 3 with-octets 16383)) (accepts (wants 0 49153) (counts 0 0) ∷ answers-room 32770 ∷ accepts (wants 1 49153) (counts 2 0) ∷ keeps 0 ∷ answers-room 49153 ∷ [])
+    ∷ turns (done (closed with-octets 16383 with-entries filled 2 .entries)) (takes (taken-of 0 0 16384) ∷ keeps 0 ∷ takes (taken-of 1 1 16384) ∷ keeps 0 ∷ [])
+    -- the place of the oldest waiting entry makes no difference to it
+    ∷ turns (done (filled 2 with-oldest 2)) (accepts (wants 1 0) (counts 2 0) ∷ keeps 0 ∷ [])
+    ∷ []
+
 -- a master holds the two sizes in their order; the stores of runs, of records and of entries; Final where 162 runs are listed, and 163
 abbrev pub stores : List Case
 stores =
@@ -427,7 +477,7 @@ master-orders =
 
 -- all of them, part by part
 abbrev pub cases : List (List Case)
-cases = sheet ∷ written ∷ laid ∷ are-read ∷ circles ∷ rested ∷ bytes ∷ stores ∷ frame-orders ∷ secondary-orders ∷ master-orders ∷ []
+cases = sheet ∷ written ∷ laid ∷ are-read ∷ circles ∷ rested ∷ bytes ∷ summed ∷ summed-anyhow ∷ stores ∷ frame-orders ∷ secondary-orders ∷ master-orders ∷ []
 
 -- ---- each case holds
 
@@ -452,6 +502,12 @@ rested-hold = ((refl, (refl, (refl, (refl, (refl, (refl, tt)))))), ((refl, (refl
 bytes-hold : AllHold bytes
 bytes-hold = ((refl, (refl, (refl, (refl, (refl, (refl, (refl, (refl, (refl, (refl, (refl, tt))))))))))), ((refl, (refl, (refl, (refl, (refl, (refl, (refl, (refl, (refl, (refl, tt)))))))))), ((refl, (refl, (refl, (refl, (refl, (refl, (refl, (refl, (refl, (refl, (refl, tt))))))))))), ((refl, (refl, (refl, (refl, (refl, (refl, (refl, (refl, (refl, tt))))))))), ((refl, (refl, (refl, (refl, (refl, (refl, (refl, (refl, (refl, tt))))))))), ((refl, (refl, (refl, (refl, (refl, (refl, (refl, (refl, (refl, (refl, (refl, (refl, tt)))))))))))), ((refl, (refl, (refl, (refl, (refl, (refl, tt)))))), ((refl, (refl, (refl, (refl, (refl, tt))))), ((refl, (refl, (refl, (refl, (refl, tt))))), tt)))))))))
 
+summed-hold : AllHold summed
+summed-hold = ((refl, (refl, (refl, (refl, (refl, (refl, (refl, (refl, (refl, (refl, (refl, (refl, (refl, (refl, (refl, (refl, (refl, (refl, (refl, (refl, (refl, (refl, tt)))))))))))))))))))))), ((refl, (refl, (refl, (refl, (refl, (refl, (refl, (refl, (refl, tt))))))))), ((refl, (refl, (refl, (refl, (refl, (refl, (refl, (refl, (refl, (refl, (refl, (refl, (refl, (refl, (refl, (refl, (refl, (refl, (refl, tt))))))))))))))))))), ((refl, (refl, (refl, (refl, (refl, (refl, (refl, (refl, (refl, (refl, (refl, (refl, (refl, (refl, tt)))))))))))))), ((refl, (refl, (refl, (refl, (refl, (refl, (refl, (refl, (refl, (refl, (refl, (refl, (refl, (refl, tt)))))))))))))), ((refl, (refl, (refl, (refl, (refl, (refl, (refl, (refl, (refl, (refl, (refl, (refl, (refl, tt))))))))))))), ((refl, (refl, (refl, (refl, (refl, tt))))), ((refl, (refl, (refl, (refl, tt)))), ((refl, (refl, (refl, (refl, (refl, tt))))), tt)))))))))
+
+summed-anyhow-hold : AllHold summed-anyhow
+summed-anyhow-hold = ((refl, (refl, (refl, (refl, (refl, (refl, tt)))))), ((refl, (refl, tt)), ((refl, (refl, (refl, (refl, (refl, (refl, (refl, (refl, (refl, tt))))))))), ((refl, (refl, (refl, (refl, (refl, tt))))), ((refl, (refl, (refl, (refl, tt)))), ((refl, (refl, tt)), tt))))))
+
 stores-hold : AllHold stores
 stores-hold = ((refl, refl), ((refl, refl), ((refl, refl), ((refl, refl), ((refl, refl), (refl, (refl, ((refl, refl), ((refl, refl), tt)))))))))
 
@@ -466,4 +522,4 @@ master-orders-hold = ((refl, (refl, tt)), ((refl, (refl, (refl, (refl, (refl, tt
 
 -- every case holds
 pub all-hold : PartsHold cases
-all-hold = (sheet-hold, (written-hold, (laid-hold, (are-read-hold, (circles-hold, (rested-hold, (bytes-hold, (stores-hold, (frame-orders-hold, (secondary-orders-hold, (master-orders-hold, tt)))))))))))
+all-hold = (sheet-hold, (written-hold, (laid-hold, (are-read-hold, (circles-hold, (rested-hold, (bytes-hold, (summed-hold, (summed-anyhow-hold, (stores-hold, (frame-orders-hold, (secondary-orders-hold, (master-orders-hold, tt)))))))))))))

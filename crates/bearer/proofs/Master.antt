@@ -8,9 +8,11 @@ pub mod Sound
 pub mod Takes
 pub mod Turned
 pub mod Applied
+pub mod Sums
 pub mod Sizes
 pub mod Accepts
 pub mod AcceptsAny
 pub mod LedgerMeans
+pub mod Unlabelled
 pub mod GivenMarks
 pub mod Given

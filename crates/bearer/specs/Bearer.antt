@@ -2,7 +2,7 @@
 -- Assumes nothing.
 use mathlib.Core.Path.{_≡_}
 use mathlib.Core.Bool.{false}
-use Prim.Native.Nat.{ℕ}
+use Prim.Native.Nat.{ℕ, _*_}
 use Rattle.basics.specs.Basics.{Outcome, done, refused, isDone}
 
 -- ---- the limits
@@ -26,6 +26,10 @@ mostEntries = 512
 -- the most octets that a PDU has (document 02, Four)
 abbrev pub mostSize : ℕ
 mostSize = 16384
+
+-- the most octets that the entries of a master can have together
+abbrev pub mostOctets : ℕ
+mostOctets = mostEntries * mostSize
 
 -- ---- what a call leaves
 

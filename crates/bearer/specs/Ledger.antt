@@ -1,19 +1,19 @@
 -- The master's machine: what each call answers and leaves, in every state (document 01, "The master's rule" and "Refusal
--- numbers", with rule 35 as request Three of document 02 mends it, and sizes and room as request Four adds them). Every definition is total. An
--- entry bears a label of any type, which no definition looks at: the engine's entries bear none (Unit), and demand 3 writes the packet's own
--- name on it.
+-- numbers", with rule 35 as request Three of document 02 mends it, sizes and room as request Four adds them, and the sum that request Five
+-- keeps). Every definition is total. An entry bears a label of any type, which no definition looks at: the engine's entries bear none (Unit),
+-- and demand 3 writes the packet's own name on it.
 -- Assumes nothing.
 use mathlib.Core.Bool.{Bool, true, false, not}
 use mathlib.Core.List.{List, [], _∷_, _++_}
 use mathlib.Core.Option.{Option, none, some}
-use Prim.Native.Nat.{ℕ, suc, _+_, _-_, _/_, _%_}
+use Prim.Native.Nat.{ℕ, suc, _+_, _-_, _/_, _%_, min}
 use lib.Dec.{ltb, leb, eqb}
 use lib.ListN.{length, take, drop}
 use Rattle.basics.specs.Basics.{if_then_else_, _and_, _or_, alike, Outcome, done, refused}
 use Rattle.circle.specs.Circle.{forward}
 use Rattle.circle.specs.Lengths.{isLength, isLong, modulusOf, pdcps, pdcpBefore}
 use Rattle.frame_layout.specs.Frames.{Range, Status, Reading, data-of, status-of, refuse, readFrame}
-use Rattle.bearer.specs.Bearer.{mostEntries, mostSize, After, refusing, answering}
+use Rattle.bearer.specs.Bearer.{mostEntries, mostSize, mostOctets, After, refusing, answering}
 
 -- what became of a packet that the master still holds
 pub data Fate : Type 0 where
@@ -29,8 +29,8 @@ pub record Entry (A : Type 0) : Type 0 where
   pub label : A
 
 -- the master's end: L, the next X2-U number, the highest last accepted (H), the last PDCP number sent, whether it is closed, both
--- sizes of the last status, where the oldest waiting entry stands (behind so many others; behind all where none waits), and the entries in
--- sending order
+-- sizes of the last status, the sizes of all waiting entries added up, where the oldest waiting entry stands (behind so many others; behind all
+-- where none waits), and the entries in sending order
 pub record Ledger (A : Type 0) : Type 0 where
   pub bits : ℕ
   pub next : ℕ
@@ -39,6 +39,7 @@ pub record Ledger (A : Type 0) : Type 0 where
   pub closed : Bool
   pub desired : ℕ
   pub minimum : ℕ
+  pub octets : ℕ
   pub oldest : ℕ
   pub entries : List (Entry A)
 
@@ -52,13 +53,14 @@ fresh L next highest closed = record {
   closed = closed;
   desired = 0;
   minimum = 0;
+  octets = 0;
   oldest = 0;
   entries = [];
 }
 
 -- a ledger whose parts that calls change are put anew, under labels of any type; beside `fresh`, the one place that says every field
-abbrev pub changed : {A B : Type 0} → Ledger A → ℕ → ℕ → ℕ → Bool → ℕ → ℕ → ℕ → List (Entry B) → Ledger B
-changed l next highest sent closed desired minimum oldest entries = record {
+abbrev pub changed : {A B : Type 0} → Ledger A → ℕ → ℕ → ℕ → Bool → ℕ → ℕ → ℕ → ℕ → List (Entry B) → Ledger B
+changed l next highest sent closed desired minimum octets oldest entries = record {
   bits = l .bits;
   next = next;
   highest = highest;
@@ -66,6 +68,7 @@ changed l next highest sent closed desired minimum oldest entries = record {
   closed = closed;
   desired = desired;
   minimum = minimum;
+  octets = octets;
   oldest = oldest;
   entries = entries;
 }
@@ -73,37 +76,42 @@ changed l next highest sent closed desired minimum oldest entries = record {
 -- ... with another next number
 infixl 20 _with-next_
 abbrev pub _with-next_ : {A : Type 0} → Ledger A → ℕ → Ledger A
-_with-next_ l next = changed l next (l .highest) (l .sent) (l .closed) (l .desired) (l .minimum) (l .oldest) (l .entries)
+_with-next_ l next = changed l next (l .highest) (l .sent) (l .closed) (l .desired) (l .minimum) (l .octets) (l .oldest) (l .entries)
 
 -- ... with another highest last accepted
 infixl 20 _with-highest_
 abbrev pub _with-highest_ : {A : Type 0} → Ledger A → ℕ → Ledger A
-_with-highest_ l highest = changed l (l .next) highest (l .sent) (l .closed) (l .desired) (l .minimum) (l .oldest) (l .entries)
+_with-highest_ l highest = changed l (l .next) highest (l .sent) (l .closed) (l .desired) (l .minimum) (l .octets) (l .oldest) (l .entries)
 
 -- ... with another last PDCP number sent
 infixl 20 _with-sent_
 abbrev pub _with-sent_ : {A : Type 0} → Ledger A → ℕ → Ledger A
-_with-sent_ l sent = changed l (l .next) (l .highest) sent (l .closed) (l .desired) (l .minimum) (l .oldest) (l .entries)
+_with-sent_ l sent = changed l (l .next) (l .highest) sent (l .closed) (l .desired) (l .minimum) (l .octets) (l .oldest) (l .entries)
 
 -- ... closed or not
 infixl 20 _with-closed_
 abbrev pub _with-closed_ : {A : Type 0} → Ledger A → Bool → Ledger A
-_with-closed_ l closed = changed l (l .next) (l .highest) (l .sent) closed (l .desired) (l .minimum) (l .oldest) (l .entries)
+_with-closed_ l closed = changed l (l .next) (l .highest) (l .sent) closed (l .desired) (l .minimum) (l .octets) (l .oldest) (l .entries)
 
 -- ... with the two sizes of a status
 infixl 20 _with-sizes-of_
 abbrev pub _with-sizes-of_ : {A : Type 0} → Ledger A → Status → Ledger A
-_with-sizes-of_ l s = changed l (l .next) (l .highest) (l .sent) (l .closed) (s .desired) (s .minimum) (l .oldest) (l .entries)
+_with-sizes-of_ l s = changed l (l .next) (l .highest) (l .sent) (l .closed) (s .desired) (s .minimum) (l .octets) (l .oldest) (l .entries)
+
+-- ... with another sum of the waiting sizes
+infixl 20 _with-octets_
+abbrev pub _with-octets_ : {A : Type 0} → Ledger A → ℕ → Ledger A
+_with-octets_ l octets = changed l (l .next) (l .highest) (l .sent) (l .closed) (l .desired) (l .minimum) octets (l .oldest) (l .entries)
 
 -- ... with another place of the oldest waiting entry
 infixl 20 _with-oldest_
 abbrev pub _with-oldest_ : {A : Type 0} → Ledger A → ℕ → Ledger A
-_with-oldest_ l oldest = changed l (l .next) (l .highest) (l .sent) (l .closed) (l .desired) (l .minimum) oldest (l .entries)
+_with-oldest_ l oldest = changed l (l .next) (l .highest) (l .sent) (l .closed) (l .desired) (l .minimum) (l .octets) oldest (l .entries)
 
 -- ... with other entries, whatever their labels
 infixl 20 _with-entries_
 abbrev pub _with-entries_ : {A B : Type 0} → Ledger A → List (Entry B) → Ledger B
-_with-entries_ l entries = changed l (l .next) (l .highest) (l .sent) (l .closed) (l .desired) (l .minimum) (l .oldest) entries
+_with-entries_ l entries = changed l (l .next) (l .highest) (l .sent) (l .closed) (l .desired) (l .minimum) (l .octets) (l .oldest) entries
 
 -- ---- open
 
@@ -149,10 +157,14 @@ isSize z = leb 1 z and leb z mostSize
 abbrev pub newEntry : {A : Type 0} → ℕ → ℕ → ℕ → A → Entry A
 newEntry n p z a = record { number = n; pdcp = p; size = z; fate = waiting; label = a }
 
+-- a sum of waiting sizes with one more; it goes no higher than the most that entries can have, which no state that calls reach would pass
+abbrev pub raised : ℕ → ℕ → ℕ
+raised octets z = min (octets + z) mostOctets
+
 -- the state after an accepted send; where none waited the new entry is the oldest that waits, and stands behind all others
 abbrev pub sentState : {A : Type 0} → Ledger A → ℕ → ℕ → A → Ledger A
 sentState l p z a =
-    l with-next (l .next + 1) % modulusOf (l .bits) with-sent p with-entries l .entries ++ (newEntry (l .next) p z a ∷ [])
+    l with-next (l .next + 1) % modulusOf (l .bits) with-sent p with-octets raised (l .octets) z with-entries l .entries ++ (newEntry (l .next) p z a ∷ [])
 
 -- send of a PDU by its PDCP number and its size: 9, 10, 39, 35, 36, or the X2-U number given out
 abbrev pub send : {A : Type 0} → Ledger A → ℕ → ℕ → A → After (Ledger A) ℕ
@@ -164,7 +176,7 @@ send l p z a =
     if leb mostEntries (length (l .entries)) then refusing 36 l else
     answering (l .next) (sentState l p z a)
 
--- ---- where the oldest waiting entry stands
+-- ---- where the oldest waiting entry stands, and how much waits
 
 -- whether an entry waits
 abbrev pub waits : {A : Type 0} → Entry A → Bool
@@ -175,9 +187,18 @@ abbrev pub waitingAt : {A : Type 0} → List (Entry A) → ℕ
 waitingAt [] = 0
 waitingAt (e ∷ es) = if waits e then 0 else suc (waitingAt es)
 
--- a ledger with other entries, whose oldest waiting one is looked for from a place on
+-- the sizes of the waiting entries, added up
+abbrev pub waitingSizes : {A : Type 0} → List (Entry A) → ℕ
+waitingSizes [] = 0
+waitingSizes (e ∷ es) = if waits e then e .size + waitingSizes es else waitingSizes es
+
+-- a sum of waiting sizes, lowered by how much less waits among others than among entries; not below 0
+abbrev pub lowered : {A : Type 0} → ℕ → List (Entry A) → List (Entry A) → ℕ
+lowered octets es others = octets - (waitingSizes es - waitingSizes others)
+
+-- a ledger with other entries: the oldest waiting one is looked for from a place on, and the sum is lowered by what waits no longer
 abbrev pub holding : {A : Type 0} → Ledger A → ℕ → List (Entry A) → Ledger A
-holding l place es = l with-oldest place + waitingAt (drop place es) with-entries es
+holding l place es = l with-oldest place + waitingAt (drop place es) with-octets lowered (l .octets) (l .entries) es with-entries es
 
 -- ---- accepting a status
 
@@ -314,12 +335,11 @@ takeOldest l = takeFrom l (take (takeAt (l .closed) (l .entries)) (l .entries)) 
 
 -- ---- room
 
--- the sizes of the waiting entries, added up
-abbrev pub waitingSizes : {A : Type 0} → List (Entry A) → ℕ
-waitingSizes [] = 0
-waitingSizes (e ∷ es) = if waits e then e .size + waitingSizes es else waitingSizes es
-
--- room, of every state, a closed one too: the desired size of the last accepted status less the sizes of all waiting entries. A difference that
--- would be negative is 0, and so is the desired size before any status
+-- room as request Four has it, of every state, a closed one too: the desired size of the last accepted status less the sizes of all waiting
+-- entries. A difference that would be negative is 0, and so is the desired size before any status
 abbrev pub room : {A : Type 0} → Ledger A → ℕ
 room l = l .desired - waitingSizes (l .entries)
+
+-- what asking for room answers: the desired size less the sum that is kept, which is room in every state that calls reach
+abbrev pub keptRoom : {A : Type 0} → Ledger A → ℕ
+keptRoom l = l .desired - l .octets

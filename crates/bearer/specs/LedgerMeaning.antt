@@ -1,7 +1,8 @@
 -- What the master's machine means: every ledger that calls reach from open is as document 01 says, with 35 as request Three of document 02
--- mends it and sizes and room as request Four adds them, on packet indexes that never roll over, whatever frames were accepted on the way. Packet
--- i is the i-th accepted send. The statements are `LedgersMean`, `SendsMean`, `TakesMean` and `StatusesMean`, at the end; they are proved in
--- proofs/Master/LedgerMeans.antt.
+-- mends it, sizes and room as request Four adds them and the sum that request Five keeps, on packet indexes that never roll over, whatever frames
+-- were accepted on the way. Packet i is the i-th accepted send. The statements stand at the end: `LedgersMean`, `SendsMean`, `TakesMean` and
+-- `StatusesMean`, proved in proofs/Master/LedgerMeans.antt, and `CallsMean`, `SumsKept` and `RoomWithoutEntries`, proved in
+-- proofs/Master/Unlabelled.antt.
 -- Assumes nothing.
 use mathlib.Core.Path.{_≡_}
 use mathlib.Core.Bool.{true, false, not, Bool}
@@ -11,7 +12,7 @@ use lib.ListN.{length, getD}
 use Rattle.basics.specs.Basics.{if_then_else_, done, _or_}
 use Rattle.circle.specs.Circle.{forward}
 use Rattle.frame_layout.specs.Frames.{Status, status-of, readFrame}
-use Rattle.bearer.specs.Ledger.{waiting, lost, Entry, Ledger, Accepted, Taken, openLedger, send, accept, takeOldest, room}
+use Rattle.bearer.specs.Ledger.{waiting, lost, Entry, Ledger, Accepted, Taken, openLedger, send, accept, takeOldest, room, keptRoom, _with-entries_}
 use Rattle.bearer.specs.Packets.{numberOf, oneBefore, lastOf, packets, Rising, In, inRanges, Each}
 
 -- A master's end by its accepted calls: the PDCP numbers and the sizes of the sends (packet i is the i-th of them), how many were freed and taken,
@@ -88,11 +89,11 @@ pub data LedgerReached (L first f : ℕ) : Ledger ℕ → Books → Type 0 where
       → LedgerReached L first f (takeOldest l .state) (taking b)
 
 -- an entry's fate is waiting; said here again on purpose, as the machine's own test must not move what is said of it
-abbrev pub isWaiting : Entry ℕ → Bool
+abbrev pub isWaiting : {A : Type 0} → Entry A → Bool
 isWaiting e = elim (e .fate) [ waiting ↦ true | lost ↦ false ]
 
 -- the entries that wait
-abbrev pub waitingIn : List (Entry ℕ) → List (Entry ℕ)
+abbrev pub waitingIn : {A : Type 0} → List (Entry A) → List (Entry A)
 waitingIn [] = []
 waitingIn (e ∷ es) = if isWaiting e then e ∷ waitingIn es else waitingIn es
 
@@ -114,6 +115,11 @@ oldestPdcp (e ∷ es) = e .pdcp
 -- forward to the PDCP number of an entry from that of the oldest one that waits
 abbrev pub fromOldest : ℕ → Ledger ℕ → Entry ℕ → ℕ
 fromOldest L l e = forward (2 ^ L) (oldestPdcp (waitingIn (l .entries))) (e .pdcp)
+
+-- the sizes of entries, added up
+abbrev pub sizesOf : {A : Type 0} → List (Entry A) → ℕ
+sizesOf [] = 0
+sizesOf (e ∷ es) = e .size + sizesOf es
 
 -- the sizes of packets, added up
 abbrev pub octetsOf : Books → List ℕ → ℕ
@@ -139,6 +145,9 @@ pub record LedgerMeans (L first f : ℕ) (l : Ledger ℕ) (b : Books) : Type 0 w
   pub closed-is : l .closed ≡ b .final
   -- room is what the books say, whether the end is closed or not
   pub room-is : room l ≡ roomBy b (packets (waitingIn (l .entries)))
+  -- "the sum of waiting sizes .., proved equal to that over the entries after any calls" (request Five), so what asking for room answers is room
+  pub octets-are : l .octets ≡ sizesOf (waitingIn (l .entries))
+  pub kept-room-is : keptRoom l ≡ room l
   -- "Each accepted send is now waiting, lost, freed or taken": the four counts sum to the accepted sends
   pub sum : length (waitingIn (l .entries)) + length (lostIn (l .entries)) + b .freed + b .taken ≡ length (b .sent)
   -- entries stand in sending order, and each bears its packet's two numbers and its size
@@ -209,9 +218,29 @@ pub data TakenFrom (closed : Bool) (t : Taken) : List (Entry ℕ) → List (Entr
   this-one : (e : Entry ℕ) (es : List (Entry ℕ)) → closed or not (isWaiting e) ≡ true → t ≡ record { number = e .number; pdcp = e .pdcp; size = e .size } → TakenFrom closed t (e ∷ es) es
   passes-over : {es ds : List (Entry ℕ)} (e : Entry ℕ) → closed ≡ false → isWaiting e ≡ true → TakenFrom closed t es ds → TakenFrom closed t (e ∷ es) (e ∷ ds)
 
+-- ---- ledgers without labels, as the engine holds them
+
+-- A ledger that any calls reach from open, refused ones included.
+pub data CallsReach (L first f : ℕ) : Ledger Unit → Type 0 where
+  is-opened : {l : Ledger Unit} → openLedger L first f ≡ done l → CallsReach L first f l
+  after-send : {l : Ledger Unit} (p z : ℕ) → CallsReach L first f l → CallsReach L first f (send l p z tt .state)
+  after-accept : {l : Ledger Unit} (octets : List ℕ) → CallsReach L first f l → CallsReach L first f (accept l octets .state)
+  after-take : {l : Ledger Unit} → CallsReach L first f l → CallsReach L first f (takeOldest l .state)
+
+-- an entry without its label
+abbrev pub unlabelled : {A : Type 0} → Entry A → Entry Unit
+unlabelled e = record { number = e .number; pdcp = e .pdcp; size = e .size; fate = e .fate; label = tt }
+
+-- Such a ledger is one that accepted calls reach, without its labels: so what is said of that one's figures holds of it.
+pub record Unlabelled (L first f : ℕ) (l : Ledger Unit) : Type 0 where
+  pub labelled : Ledger ℕ
+  pub books : Books
+  pub reached : LedgerReached L first f labelled books
+  pub same : l ≡ labelled with-entries map unlabelled (labelled .entries)
+
 -- ---- the statements
 
--- every ledger that calls reach
+-- every ledger that calls reach, by its accepted calls
 abbrev pub LedgersMean : Type 0
 LedgersMean = (L first f : ℕ) (l : Ledger ℕ) (b : Books) → LedgerReached L first f l b → LedgerMeans L first f l b
 
@@ -231,3 +260,15 @@ abbrev pub StatusesMean : Type 0
 StatusesMean =
     (L first f : ℕ) (l : Ledger ℕ) (b : Books) → LedgerReached L first f l b → (octets : List ℕ) (a : Accepted) → accept l octets .answer ≡ done a
     → StatusMeans L (b .sent) l octets a
+
+-- every ledger without labels that calls reach
+abbrev pub CallsMean : Type 0
+CallsMean = (L first f : ℕ) (l : Ledger Unit) → CallsReach L first f l → Unlabelled L first f l
+
+-- "Keep the sum of waiting sizes in the ledger, proved equal to that over the entries after any calls" (request Five): there asking for room answers room
+abbrev pub SumsKept : Type 0
+SumsKept = (L first f : ℕ) (l : Ledger Unit) → CallsReach L first f l → (l .octets ≡ sizesOf (waitingIn (l .entries))) × (keptRoom l ≡ room l)
+
+-- "Room without adding up": it looks at no entry, in any state
+abbrev pub RoomWithoutEntries : Type 1
+RoomWithoutEntries = (A B : Type 0) (l : Ledger A) (es : List (Entry B)) → keptRoom (l with-entries es) ≡ keptRoom l

@@ -113,8 +113,8 @@ seen-then L w =
     ∷ (w .ledger .highest ∷ [] is pdcp L 345 ∷ [])
     -- so the master has freed what came through 345
     ∷ (w .freed is 0 ∷ 1 ∷ second 23 162)
-    -- 346 to 359 wait, and are taken away from the desired size
-    ∷ (G.room (w .ledger) ∷ [] is (65536 - 4949) ∷ [])
+    -- 346 to 359 wait: the sum is theirs, and is taken away from the desired size
+    ∷ (w .ledger .octets ∷ G.keptRoom (w .ledger) ∷ G.room (w .ledger) ∷ [] is 4949 ∷ (65536 - 4949) ∷ (65536 - 4949) ∷ [])
     -- and 7 runs, and the records of 7 packets though these are confirmed, stay with the secondary
     ∷ (map (λ (r : Range). r .start) (w .keeper .runs) is map (number L) (second 346 7))
     ∷ (K.held (w .keeper) is map (number L) (second 347 7))
@@ -137,7 +137,7 @@ seen-at-end L w =
     -- three frames were built and delivered, and both ends are closed
     ∷ (length (w .built) ∷ w .delivered ∷ bit (w .keeper .closed) ∷ bit (w .ledger .closed) ∷ [] is 3 ∷ 3 ∷ 1 ∷ 1 ∷ [])
     -- none waits: there is all the room that was desired
-    ∷ (G.room (w .ledger) ∷ [] is 65536 ∷ [])
+    ∷ (w .ledger .octets ∷ G.keptRoom (w .ledger) ∷ G.room (w .ledger) ∷ [] is 0 ∷ 65536 ∷ 65536 ∷ [])
     -- the master's next X2-U number and its last PDCP number
     ∷ (w .ledger .next ∷ w .ledger .sent ∷ [] is 351 ∷ rested L ∷ [])
     ∷ []

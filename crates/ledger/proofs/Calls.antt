@@ -16,15 +16,16 @@ use Rattle.circle.specs.Lengths.{isLength, isLong, modulusOf, pdcps, pdcpBefore
 use Rattle.circle.proofs.Forms.{length-read}
 use Rattle.frame_layout.specs.Frames.{Status, readFrame}
 use Rattle.bearer.specs.Bearer.{mostEntries}
-use Rattle.bearer.specs.Ledger.{Entry, Ledger, Passed, fresh, isSize, inOrder, newEntry, send, waitingAt, markLost, waitsFor, freed, freeThrough, acceptedState, acceptMarked, acceptStatus, acceptReading, accept, openLedger, takeAt, placeWithout, takeOldest, _with-next_, _with-highest_, _with-sent_, _with-closed_, _with-sizes-of_, _with-oldest_, _with-entries_}
+use Rattle.bearer.specs.Ledger.{Entry, Ledger, Passed, fresh, isSize, inOrder, newEntry, raised, send, waits, waitingAt, markLost, waitsFor, freed, freeThrough, acceptedState, acceptMarked, acceptStatus, acceptReading, accept, openLedger, takeAt, placeWithout, takeOldest, _with-next_, _with-highest_, _with-sent_, _with-closed_, _with-sizes-of_, _with-octets_, _with-oldest_, _with-entries_}
 use Rattle.frame_reader.specs.declared.Frame.{Frame}
 use Rattle.frame_reader.specs.Answers.{readingOf}
 use Rattle.ledger_marks.specs.declared.Marked.{Marked}
-use Rattle.ledger_entries.specs.declared.Kept.{Kept}
+use Rattle.ledger_entries.specs.declared.Freed.{Freed}
 use Rattle.ledger_entries.specs.View.{heldIn}
-use Rattle.ledger_entries.specs.Steps.{keptOf, freeWhile}
+use Rattle.ledger_entries.specs.Steps.{freedOf, freeWhile, Lowers}
 use Rattle.ledger_marks.specs.Walked.{markedAs}
 use Rattle.ledger_entries.proofs.Entries.{Stands}
+use Rattle.ledger_entries.proofs.Sums.{lowers-taken}
 use Rattle.ledger.specs.View.{beside}
 use Rattle.ledger.specs.Steps.{followsFrom}
 
@@ -88,12 +89,13 @@ module _ {l : Ledger Unit} {p z : ℕ} (fit : Fit l p z) where
     pub send-full : mostEntries ≤ length (l .entries) → send l p z tt ≡ beside (refused 36) l
     send-full f = rw (fit .sized, o, fit .open-end, lt-ltb p (pdcps (l .bits)) (fit .below), le-leb mostEntries (length (l .entries)) f)
 
-    -- the next number and the entries are the machine's
+    -- the next number, the sum and the entries are the machine's
     pub send-done : length (l .entries) < mostEntries → (next : ℕ) → next ≡ (l .next + 1) % modulusOf (l .bits)
+        → (octets : ℕ) → octets ≡ raised (l .octets) z
         → (es : List (Entry Unit)) → es ≡ l .entries ++ (newEntry (l .next) p z tt ∷ [])
-        → beside (done (l .next)) (l with-next next with-sent p with-entries es) ≡ send l p z tt
-    send-done f next n es e =
-        rw (fit .sized, o, fit .open-end, lt-ltb p (pdcps (l .bits)) (fit .below), lt-leb mostEntries (length (l .entries)) f, n, e)
+        → beside (done (l .next)) (l with-next next with-sent p with-octets octets with-entries es) ≡ send l p z tt
+    send-done f next n octets q es e =
+        rw (fit .sized, o, fit .open-end, lt-ltb p (pdcps (l .bits)) (fit .below), lt-leb mostEntries (length (l .entries)) f, n, q, e)
 
 -- ---- accepting a status
 
@@ -136,17 +138,18 @@ module _ (l : Ledger Unit) (s : Status) (m : Marked) (count : ℕ) {o : Option (
     pub accept-highest : (eqb (s .highest) (l .highest) or waitsFor (s .highest) (heldIn (m .entries) count)) ≡ false → acceptMarked l s o ≡ beside (refused 34) l
     accept-highest b = rw (← e, a, b)
 
-    -- what is freed, and the place of the oldest waiting entry, are the machine's
+    -- what is freed, what is left of the sum, and the place of the oldest waiting entry are the machine's
     pub accept-done : (eqb (s .highest) (l .highest) or waitsFor (s .highest) (heldIn (m .entries) count)) ≡ true
-        → (k : Kept) → keptOf k count ≡ freeWhile (not (eqb (s .highest) (l .highest))) (s .highest) (heldIn (m .entries) count)
+        → (k : Freed) → freedOf k count ≡ freeWhile (not (eqb (s .highest) (l .highest))) (s .highest) (heldIn (m .entries) count)
         → (n : ℕ) → n ≡ min count mostEntries
         → (place : ℕ) → place ≡ l .oldest + waitingAt (drop (l .oldest) (heldIn (k .entries) (k .count)))
+        → Lowers (l .octets) (l .entries) (heldIn (k .entries) (k .count)) (k .octets)
         → acceptMarked l s o ≡ beside (done (record { freed = n - k .count; lost = m .lost; final = s .final }))
-        (l with-highest s .highest with-closed s .final with-sizes-of s with-oldest place with-entries heldIn (k .entries) (k .count))
-    accept-done b k f n held place found =
+        (l with-highest s .highest with-closed s .final with-sizes-of s with-oldest place with-octets k .octets with-entries heldIn (k .entries) (k .count))
+    accept-done b k f n held place found sum =
         let es = heldIn (m .entries) count in
-        let g : freed l (s .highest) es ≡ keptOf k count = freed-by (eqb (s .highest) (l .highest)) (record { entries = es; count = 0 }) (freeThrough (s .highest) es) ∙ sym f in
-        rw (← e, a, b, held, found) (ap (λ (p : Passed Unit). beside (done (record { freed = p .count; lost = m .lost; final = s .final })) (acceptedState l s (p .entries))) g)
+        let g : freed l (s .highest) es ≡ freedOf k count = freed-by (eqb (s .highest) (l .highest)) (record { entries = es; count = 0 }) (freeThrough (s .highest) es) ∙ sym f in
+        rw (← e, a, b, held, found, sum .left-is) (ap (λ (p : Passed Unit). beside (done (record { freed = p .count; lost = m .lost; final = s .final })) (acceptedState l s (p .entries))) g)
 
 -- ---- take
 
@@ -154,10 +157,12 @@ module _ (l : Ledger Unit) (i : ℕ) (e : i ≡ takeAt (l .closed) (l .entries))
   pub take-none : length (l .entries) ≤ i → takeOldest l ≡ beside (refused 38) l
   take-none all = rw (← e, drop-of-length-le (l .entries) all)
 
-  -- the entries and the place of the oldest waiting one are the machine's
+  -- the entries, what is left of the sum, and the place of the oldest waiting one are the machine's
   pub take-one : (x : Entry Unit) → Stands (l .entries) i x → (es : List (Entry Unit)) → es ≡ take i (l .entries) ++ drop (i + 1) (l .entries)
       → (place : ℕ) → place ≡ placeWithout i (l .oldest) + waitingAt (drop (placeWithout i (l .oldest)) es)
-      → beside (done (record { number = x .number; pdcp = x .pdcp; size = x .size })) (l with-oldest place with-entries es) ≡ takeOldest l
-  take-one x at es left place found =
+      → (octets : ℕ) → octets ≡ l .octets - (if waits x then x .size else 0)
+      → beside (done (record { number = x .number; pdcp = x .pdcp; size = x .size })) (l with-oldest place with-octets octets with-entries es) ≡ takeOldest l
+  take-one x at es left place found octets less =
       let front : length (take i (l .entries)) ≡ i = length-take-le i (l .entries) (omega (arith, at .inside)) in
-      rw (found, left, ← e, at .rest, front, add-one i)
+      let sum = lowers-taken (l .octets) at less .left-is in
+      rw (found, sum, left, ← e, at .rest, front, add-one i)

@@ -28,6 +28,7 @@ ledgerIn l = record {
   closed = l .closed;
   desired = l .desired;
   minimum = l .minimum;
+  octets = l .octets;
   oldest = l .oldest;
   entries = heldIn (l .entries) (l .count);
 }

@@ -1,9 +1,11 @@
 // The master's ledger (MeNB end): open, send, accepting a status, take, room. The state is a struct by value; its entries stand
 // in sending order from slot 0 on (the crate ledger_entries). specs/View.antt says how a state and the answers are read.
 ghost use mathlib.Core.Path.{_≡_};
+ghost use Prim.Native.Nat.{_≤_};
 ghost use Rattle.basics.specs.Basics.{refused, alike};
 ghost use Rattle.circle.specs.Lengths.{isLong, lengthIn};
-ghost use Rattle.bearer.specs.Ledger.{fresh as «freshOf», openLedger, isSize, send as «sendOf», accept as «acceptOf», takeOldest, markLost, acceptStatus, acceptMarked, room as «roomOf»};
+ghost use Rattle.bearer.specs.Bearer.{mostSize};
+ghost use Rattle.bearer.specs.Ledger.{fresh as «freshOf», openLedger, isSize, send as «sendOf», accept as «acceptOf», takeOldest, markLost, acceptStatus, acceptMarked, raised, keptRoom};
 ghost use Rattle.frame_reader.specs.Answers.{cursorOf, Held};
 ghost use Rattle.ledger.specs.View.{ledgerIn, openedAs, sentAs, acceptedAs, takenAs, beside, opens};
 ghost use Rattle.ledger.specs.Steps.{followsFrom, statusIn};
@@ -16,9 +18,12 @@ use ledger_entries::MOST_ENTRIES;
 // How many octets a PDU has at most (refusal 39).
 const MOST_SIZE: u32 = 16384;
 
+// How many the entries have together at most: 512 such PDUs.
+const MOST_OCTETS: u32 = 8388608;
+
 // The master's end: the entries and how many they are, L, the next X2-U number, the highest last accepted, the last PDCP
-// number sent, whether it is closed, both sizes of the last status, and where the oldest waiting entry stands (behind all
-// where none waits).
+// number sent, whether it is closed, both sizes of the last status, the sizes of all waiting entries added up, and where the
+// oldest waiting entry stands (behind all where none waits).
 pub struct Ledger {
     pub entries: [Entry; MOST_ENTRIES],
     pub count: usize,
@@ -29,6 +34,7 @@ pub struct Ledger {
     pub closed: bool,
     pub desired: u32,
     pub minimum: u32,
+    pub octets: u32,
     pub oldest: usize,
 }
 
@@ -94,6 +100,7 @@ fn fresh(bits: u32, next: u32, highest: u32, closed: bool) -> Ledger
         closed: closed,
         desired: 0,
         minimum: 0,
+        octets: 0,
         oldest: 0,
     }
 }
@@ -139,6 +146,17 @@ fn is_size(size: u32) -> bool
         return false;
     }
     size <= MOST_SIZE
+}
+
+// A sum of waiting sizes with one more. It stops at the most that entries have together, so that it can't overflow, whatever the sum was.
+fn raise(octets: u32, size: u32) -> u32
+    requires { ⌜ size ≤ mostSize ⌝ }
+    ensures { λ r. ⌜ r ≡ raised octets size ⌝ }
+{
+    if MOST_OCTETS - size <= octets {
+        return MOST_OCTETS;
+    }
+    octets + size
 }
 
 // Whether a PDCP number follows, seen from that of the oldest waiting entry: past the last sent, and less than half the PDCP
@@ -197,13 +215,13 @@ pub fn send(l: Ledger, pdcp: u32, size: u32) -> Sending
     if MOST_ENTRIES <= n {
         return not_sent(l, refusal::ENTRIES);
     }
-    let number = l.next;
-    after.entries[n] = ledger_entries::new_entry(number, pdcp, size as u16);
+    after.entries[n] = ledger_entries::new_entry(l.next, pdcp, size as u16);
+    after.octets = raise(l.octets, size);
     after.count = n + 1;
-    after.next = circle::onward(number, 1, circle::is_long(l.bits));
+    after.next = circle::onward(l.next, 1, circle::is_long(l.bits));
     after.sent = pdcp;
     Sending {
-        answer: Sent::Number(number),
+        answer: Sent::Number(l.next),
         ledger: after,
     }
 }
@@ -235,7 +253,8 @@ fn apply(l: Ledger, frame: &[u8], head: Head) -> Accepting
         ≡ acceptMarked (ledgerIn l) (statusIn (now (frame .entry)) head) (markLost (ledgerIn l .bits) (ledgerIn l .entries) (statusIn (now (frame .entry)) head .ranges)) ⌝ }
 {
     let es = l.entries;
-    let marked = ledger_marks::mark(es, l.count, frame, frame_reader::first_range(head));
+    let first = frame_reader::first_range(head);
+    let marked = ledger_marks::mark(es, l.count, l.octets, frame, first);
     if !marked.found {
         return not_accepted(l, refusal::NOT_WAITING);
     }
@@ -243,7 +262,7 @@ fn apply(l: Ledger, frame: &[u8], head: Head) -> Accepting
     if !ledger_entries::may_be_highest(ms, l.count, l.highest, head.highest) {
         return not_accepted(l, refusal::NO_SUCH_HIGHEST);
     }
-    let kept = ledger_entries::free_through(ms, l.count, l.highest, head.highest);
+    let kept = ledger_entries::free_through(ms, l.count, marked.octets, l.highest, head.highest);
     let rest = kept.entries;
     let oldest = ledger_entries::waiting_from(rest, kept.count, l.oldest);
     let n = basics::least(l.count, MOST_ENTRIES);
@@ -260,6 +279,7 @@ fn apply(l: Ledger, frame: &[u8], head: Head) -> Accepting
             closed: head.last,
             desired: head.desired,
             minimum: head.minimum,
+            octets: kept.octets,
             oldest: oldest,
             ..l
         },
@@ -313,6 +333,7 @@ pub fn take(l: Ledger) -> Taking
     let rest = kept.entries;
     let from = ledger_entries::place_without(at, l.oldest);
     let place = ledger_entries::waiting_from(rest, kept.count, from);
+    let octets = ledger_entries::less(l.octets, ledger_entries::waiting_size(e));
     Taking {
         answer: Taken::Packet {
             number: e.number,
@@ -322,6 +343,7 @@ pub fn take(l: Ledger) -> Taking
         ledger: Ledger {
             entries: rest,
             count: kept.count,
+            octets: octets,
             oldest: place,
             ..l
         },
@@ -331,10 +353,9 @@ pub fn take(l: Ledger) -> Taking
 // ---- room
 
 // Room: the desired size of the last accepted status less the sizes of all waiting entries; 0 where that would be negative or no
-// status has come. A closed end answers it too.
+// status has come. A closed end answers it too. It looks at the sum that is kept, and at no entry.
 pub fn room(l: Ledger) -> u32
-    ensures { λ r. ⌜ r ≡ «roomOf» (ledgerIn l) ⌝ }
+    ensures { λ r. ⌜ r ≡ keptRoom (ledgerIn l) ⌝ }
 {
-    let es = l.entries;
-    ledger_entries::less_waiting(es, l.count, l.desired)
+    ledger_entries::less(l.desired, l.octets)
 }

@@ -1,4 +1,4 @@
--- The passes over entries that look, free, take and count, one entry at a time: what is done so far, and what is still to be
+-- The passes over entries that look, free and take, one entry at a time: what is done so far, and what is still to be
 -- done, is what the whole pass comes to.
 -- Assumes nothing.
 use mathlib.Core.Path.{_≡_, refl, sym, _∙_, ap}
@@ -6,13 +6,13 @@ use mathlib.Core.Bool.{Bool, true, false, not}
 use mathlib.Core.List.{List, [], _∷_, _++_, append-assoc, append-nil}
 use Prim.Native.Nat.{ℕ, suc, _+_, _-_, _≤_, _<_}
 use native.Mathlib.Numerals.{add-one}
-use native.Mathlib.Nat.{add-zero, zero-add, sub-zero}
+use native.Mathlib.Nat.{add-zero, zero-add}
 use native.Mathlib.Omega.{arith}
 use lib.Dec.{eqb}
 use lib.ListN.{length, getD, set, take, drop, drop-of-length-le}
 use lib.Seq.{take-all, take-suc-set, drop-set-lt}
 use Rattle.basics.specs.Basics.{if_then_else_, _and_, _or_}
-use Rattle.bearer.specs.Ledger.{Entry, Passed, waits, waitingAt, waitsFor, takeAt, kept, counted, freeThrough, waitingSizes}
+use Rattle.bearer.specs.Ledger.{Entry, Passed, waits, waitingAt, waitsFor, takeAt, kept, counted, freeThrough}
 use Rattle.ledger_entries.specs.declared.Entry.{Entry as Slot}
 use Rattle.ledger_entries.specs.View.{entryIn, heldIn}
 use Rattle.ledger_entries.specs.Steps.{freeWhile}
@@ -61,6 +61,29 @@ module _ {place : List (Entry Unit) → ℕ} {test : Entry Unit → Bool} (finds
   -- all were passed
   pub found-none : (xs : List (Entry Unit)) (i : ℕ) → length xs ≤ i → i + place (drop i xs) ≡ i
   found-none xs i all = rw (drop-of-length-le xs all, finds .none, add-zero i)
+
+-- ---- moving down what is kept
+
+-- the entries with i passed and k of them kept, which now stand in front
+abbrev pub keeping : List (Entry Unit) → ℕ → ℕ → List (Entry Unit)
+keeping xs k i = take k xs ++ drop i xs
+
+-- the entry at i is kept, and moves down
+pub moves-down : {xs : List (Entry Unit)} {i : ℕ} {e : Entry Unit} → Stands xs i e → (k : ℕ) → k ≤ i → keeping xs k i ≡ keeping (set xs k e) (k + 1) (i + 1)
+moves-down {xs} {i} {e} at k below =
+    rw (add-one k, add-one i, take-suc-set xs k e (omega (arith, at .inside)), drop-set-lt (suc i) xs k e (omega arith), at .rest)
+    (sym (append-assoc (take k xs) (e ∷ []) (drop (suc i) xs)))
+
+-- the same in slots
+pub moved : {es : List Slot} {count n i : ℕ} (r : Reached es count n i) → i < n → (k : ℕ) → k ≤ i → (d : Slot)
+    → keeping (heldIn es count) k i ≡ keeping (heldIn (set es k (getD es i d)) count) (k + 1) (i + 1)
+moved {es} {count} {n} {i} r inside k below d =
+    moves-down (here r inside d) k below
+    ∙ ap (λ (xs : List (Entry Unit)). keeping xs (k + 1) (i + 1)) (sym (stored es count k (getD es i d) (omega arith)))
+
+-- all were passed
+pub closed-up : (xs : List (Entry Unit)) (k i : ℕ) → length xs ≤ i → keeping xs k i ≡ take k xs
+closed-up xs k i all = rw (drop-of-length-le xs all) (append-nil (take k xs))
 
 -- ---- freeing
 
@@ -124,44 +147,6 @@ freed-all h xs k i false all = rw (drop-of-length-le xs all, append-nil (take k 
 
 -- ---- taking one out
 
--- the entries without one, with those below i moved down
-abbrev pub closing : List (Entry Unit) → ℕ → List (Entry Unit)
-closing xs i = take (i - 1) xs ++ drop i xs
-
--- the entry at i moves down
-pub moves-down : {xs : List (Entry Unit)} {i : ℕ} {e : Entry Unit} → Stands xs i e → 0 < i → closing xs i ≡ closing (set xs (i - 1) e) (i + 1)
-moves-down {xs} {i} {e} at pos =
-    let n : i + 1 - 1 ≡ suc (i - 1) = omega arith in
-    rw (n, add-one i, take-suc-set xs (i - 1) e (omega (arith, at .inside)), drop-set-lt (suc i) xs (i - 1) e (omega arith), at .rest)
-    (sym (append-assoc (take (i - 1) xs) (e ∷ []) (drop (suc i) xs)))
-
--- the same in slots
-pub moved : {es : List Slot} {count n i : ℕ} (r : Reached es count n i) → i < n → 0 < i → (d : Slot)
-    → closing (heldIn es count) i ≡ closing (heldIn (set es (i - 1) (getD es i d)) count) (i + 1)
-moved {es} {count} {n} {i} r inside pos d =
-    moves-down (here r inside d) pos
-    ∙ ap (λ (xs : List (Entry Unit)). closing xs (i + 1)) (sym (stored es count (i - 1) (getD es i d) (omega arith)))
-
--- all were moved
-pub closed-up : (xs : List (Entry Unit)) (i : ℕ) → length xs ≤ i → closing xs i ≡ take (i - 1) xs
-closed-up xs i all = rw (drop-of-length-le xs all) (append-nil (take (i - 1) xs))
-
 -- no entry stands at the place
 pub nothing-out : (xs : List (Entry Unit)) (i : ℕ) → length xs ≤ i → take i xs ++ drop (i + 1) xs ≡ xs
 nothing-out xs i none = rw (take-all i xs none, drop-of-length-le xs {i = i + 1} (omega arith)) (append-nil xs)
-
--- ---- room
-
--- a size goes, or it stays, with those behind it
-less-with : (goes : Bool) (left size behind : ℕ) → left - (if goes then size + behind else behind) ≡ left - (if goes then size else 0) - behind
-less-with true left size behind = omega arith
-less-with false left size behind = omega arith
-
--- what an entry takes is taken away, and then what those behind it take
-pub less-one : {xs : List (Entry Unit)} {i : ℕ} {e : Entry Unit} → Stands xs i e → (left : ℕ) {size rest : ℕ}
-    → size ≡ (if waits e then e .size else 0) → rest ≡ left - size → left - waitingSizes (drop i xs) ≡ rest - waitingSizes (drop (i + 1) xs)
-less-one {xs} {i} {e} at left takes less = rw (add-one i, at .rest, less, takes) (less-with (waits e) left (e .size) (waitingSizes (drop (suc i) xs)))
-
--- all were passed
-pub less-none : (xs : List (Entry Unit)) (i left : ℕ) → length xs ≤ i → left - waitingSizes (drop i xs) ≡ left
-less-none xs i left all = rw (drop-of-length-le xs all) (sub-zero left)

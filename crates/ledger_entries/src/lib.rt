@@ -8,9 +8,9 @@ ghost use lib.Dec.{eqb};
 ghost use lib.ListN.{take, drop};
 ghost use Rattle.basics.specs.Basics.{if_then_else_, _and_, _or_};
 ghost use Rattle.bearer.specs.Bearer.{mostEntries};
-ghost use Rattle.bearer.specs.Ledger.{newEntry, waits as «waitsOf», waitingAt, asLost, waitsFor, takeAt, placeWithout, waitingSizes};
+ghost use Rattle.bearer.specs.Ledger.{newEntry, waits as «waitsOf», waitingAt, asLost, waitsFor, takeAt, placeWithout};
 ghost use Rattle.ledger_entries.specs.View.{entryIn, heldIn};
-ghost use Rattle.ledger_entries.specs.Steps.{keptOf, freeWhile};
+ghost use Rattle.ledger_entries.specs.Steps.{freedOf, freeWhile, Lowers};
 
 // How many entries are held at most (refusal 36).
 pub const MOST_ENTRIES: usize = 512;
@@ -34,6 +34,13 @@ pub struct Entry {
 pub struct Kept {
     pub entries: [Entry; MOST_ENTRIES],
     pub count: usize,
+}
+
+// Entries without those that were freed, how many they are, and what is left of a sum of waiting sizes.
+pub struct Freed {
+    pub entries: [Entry; MOST_ENTRIES],
+    pub count: usize,
+    pub octets: u32,
 }
 
 // ---- an entry
@@ -92,6 +99,22 @@ fn leaves(e: Entry, going: bool) -> bool
     if going { waits(e) } else { false }
 }
 
+// ---- how much waits
+
+// How much an entry has of what waits: a waiting one its size, a lost one nothing.
+pub fn waiting_size(e: Entry) -> u32
+    ensures { λ r. ⌜ r ≡ (if «waitsOf» (entryIn e) then e .size else 0) ⌝ }
+{
+    if waits(e) { e.size as u32 } else { 0 }
+}
+
+// What is left of octets when some are taken away: 0 where those are as many or more.
+pub fn less(octets: u32, size: u32) -> u32
+    ensures { λ r. ⌜ r ≡ octets - size ⌝ }
+{
+    if octets <= size { 0 } else { octets - size }
+}
+
 // ---- the oldest waiting entry
 
 // Where the first waiting entry from a place on stands; for none, how many entries there are. A place past them is the answer itself.
@@ -139,18 +162,27 @@ pub fn may_be_highest(es: [Entry; MOST_ENTRIES], count: usize, last: u32, highes
 }
 
 // Frees every waiting entry from the oldest through the one with this highest; none where it is the one last accepted.
-// What is kept moves down in place.
-pub fn free_through(es: [Entry; MOST_ENTRIES], count: usize, last: u32, highest: u32) -> Kept
-    ensures { λ r. ⌜ (keptOf r count ≡ freeWhile (not (eqb highest last)) highest (heldIn es count)) × (r .count ≤ min count mostEntries) ⌝ }
+// What is kept moves down in place, and a sum of waiting sizes is lowered by each size that goes.
+pub fn free_through(
+    es: [Entry; MOST_ENTRIES],
+    count: usize,
+    octets: u32,
+    last: u32,
+    highest: u32,
+) -> Freed
+    ensures { λ r. ⌜ (freedOf r count ≡ freeWhile (not (eqb highest last)) highest (heldIn es count)) × (r .count ≤ min count mostEntries)
+        × Lowers octets (heldIn es count) (heldIn (r .entries) (r .count)) (r .octets) ⌝ }
 {
     let n = basics::least(count, MOST_ENTRIES);
     let mut ms = es;
+    let mut left = octets;
     let mut going = highest != last;
     let mut i: usize = 0;
     let mut kept: usize = 0;
     while i < n {
         let e = ms[i];
         if leaves(e, going) {
+            left = less(left, e.size as u32);
             going = e.pdcp != highest;
         } else {
             ms[kept] = e;
@@ -158,9 +190,10 @@ pub fn free_through(es: [Entry; MOST_ENTRIES], count: usize, last: u32, highest:
         }
         i += 1;
     }
-    Kept {
+    Freed {
         entries: ms,
         count: kept,
+        octets: left,
     }
 }
 
@@ -204,36 +237,4 @@ pub fn without(es: [Entry; MOST_ENTRIES], count: usize, at: usize) -> Kept
         entries: ms,
         count: n - 1,
     }
-}
-
-// ---- room
-
-// How much an entry takes of the room: a waiting one its size, a lost one nothing.
-fn takes(e: Entry) -> u32
-    ensures { λ r. ⌜ r ≡ (if «waitsOf» (entryIn e) then e .size else 0) ⌝ }
-{
-    if waits(e) { e.size as u32 } else { 0 }
-}
-
-// What is left of a size when another is taken away: 0 where that is as much or more.
-fn less(left: u32, size: u32) -> u32
-    ensures { λ r. ⌜ r ≡ left - size ⌝ }
-{
-    if left <= size { 0 } else { left - size }
-}
-
-// What is left of a desired size when the sizes of all waiting entries are taken away; 0 where they are as much or more. Sizes are
-// taken away one after another, so that nothing is added up that could overflow, whatever the entries hold.
-pub fn less_waiting(es: [Entry; MOST_ENTRIES], count: usize, desired: u32) -> u32
-    ensures { λ r. ⌜ r ≡ desired - waitingSizes (heldIn es count) ⌝ }
-{
-    let n = basics::least(count, MOST_ENTRIES);
-    let mut left = desired;
-    let mut i: usize = 0;
-    while i < n {
-        let e = es[i];
-        left = less(left, takes(e));
-        i += 1;
-    }
-    left
 }

@@ -12,6 +12,7 @@ use native.Mathlib.Omega.{arith}
 use borrow.Author.Tests.{eq-eqb, ne-eqb}
 use lib.ListN.{length, getD, set, take, drop, take-append-drop, drop-of-length-le}
 use lib.Seq.{take-suc-set, drop-set-lt}
+use Rattle.basics.proofs.Choices.{and-true}
 use Rattle.circle.specs.Circle.{forward, forward-self, forward-none, one-nearer}
 use Rattle.circle.specs.Lengths.{modulus, isLong}
 use Rattle.circle.proofs.Forms.{modulus-bounds}
@@ -19,8 +20,10 @@ use Rattle.frame_layout.specs.Frames.{Range}
 use Rattle.bearer.specs.Ledger.{Entry, Passed, noteIn, asLost, bears, afterNumber, markLost}
 use Rattle.ledger_entries.specs.declared.Entry.{Entry as Slot}
 use Rattle.ledger_entries.specs.View.{entryIn, heldIn}
+use Rattle.ledger_entries.specs.Steps.{Lowers}
 use Rattle.ledger_entries.proofs.Entries.{Stands, Reached, here, stored}
 use Rattle.ledger_entries.proofs.Passes.{inFront}
+use Rattle.ledger_entries.proofs.Sums.{lowers-lost}
 use Rattle.ledger_marks.proofs.Walks.{range}
 
 -- the same in front of a pass that may have failed
@@ -80,6 +83,13 @@ module _ {es : List Slot} {count n i : ℕ} (reached : Reached es count n i) (in
   -- else the next number
   pub one-found : (s ≡ t → ⊥) → Same long (marking (heldIn es count) i c (range s t ∷ rs)) (marking (heldIn (set es i x) count) (i + 1) (c + 1) (range ((s + 1) % modulus long) t ∷ rs))
   one-found more L form = found L ∙ rw (ne-eqb s t more, form)
+
+-- and a sum of waiting sizes is lowered by its size
+pub lowers-found : {es : List Slot} {count n i : ℕ} (reached : Reached es count n i) (inside : i < n) (d x : Slot) → entryIn x ≡ asLost (entryIn (getD es i d))
+    → (s : ℕ) → bears (entryIn (getD es i d)) s ≡ true → {octets left rest : ℕ} {ys : List (Entry Unit)} → Lowers octets ys (heldIn es count) left → rest ≡ left - getD es i d .size
+    → Lowers octets ys (heldIn (set es i x) count) rest
+lowers-found {es} {count} {n} {i} reached inside d x is s b f less =
+    rw (stored es count i x (omega arith), is) (lowers-lost (here reached inside d) f (and-true _ _ b .0) less)
 
 -- without ranges nothing changes
 nothing-left : (L : ℕ) (ys : List (Entry Unit)) → markLost L ys [] ≡ some (record { entries = ys; count = 0 })

@@ -6,7 +6,7 @@ use Prim.Native.Nat.{ℕ, zero, suc, _+_, _-_, _%_, _^_, min}
 use lib.Dec.{eqb}
 use Rattle.basics.specs.Basics.{if_then_else_, Outcome, done, refused}
 use Rattle.bearer.specs.Bearer.{After, answering, mostEntries}
-use Rattle.bearer.specs.Ledger.{Ledger, Accepted, changed, openLedger, send, accept, room}
+use Rattle.bearer.specs.Ledger.{Ledger, Accepted, changed, openLedger, send, accept, keptRoom}
 use Rattle.ledger.specs.View.{opens}
 
 -- ---- turns
@@ -79,11 +79,11 @@ sendsBehind L entries turns octets = rounds (min entries mostEntries) 16 (accept
 
 -- a ledger with another desired size
 abbrev pub desiring : Ledger Unit → ℕ → Ledger Unit
-desiring l d = changed l (l .next) (l .highest) (l .sent) (l .closed) d (l .minimum) (l .oldest) (l .entries)
+desiring l d = changed l (l .next) (l .highest) (l .sent) (l .closed) d (l .minimum) (l .octets) (l .oldest) (l .entries)
 
--- each turn asks for room, and leaves a desired size that is greater by 1
+-- each turn asks for room, and leaves a desired size that is greater by 1, or by 2 after an odd answer
 abbrev pub askRoom : Turn ℕ
-askRoom i l = answering (room l) (desiring l ((l .desired + 1) % 2 ^ 32))
+askRoom i l = answering (keptRoom l) (desiring l ((l .desired + (1 + keptRoom l % 2)) % 2 ^ 32))
 
 -- so many times asked for room, first of what octets leave to a filled ledger
 abbrev pub rooms : ℕ → ℕ → ℕ → List ℕ → ℕ

@@ -54,9 +54,8 @@ pub extern "C" fn probe_ledger_accept(bits: u32, entries: u32, turns: u32, frame
     std::num::wrapping_add_u32(t.sum, t.ledger.next)
 }
 
-// Sends so many packets, 512 at most, accepts a frame, and then asks so many times for room. Each turn leaves a desired size that is
-// greater by 1, so that no turn asks what another asked: the compiler then walks the entries in each, and only with no entry adds up
-// without a loop (seen in the code for x86-64).
+// Sends so many packets, 512 at most, accepts a frame, and then asks so many times for room. What a turn asks hangs on what the one
+// before it was answered, so that the compiler can neither leave a turn out nor do several at once.
 #[no_mangle]
 pub extern "C" fn probe_ledger_room(bits: u32, entries: u32, turns: u32, frame: &[u8]) -> u32
     ensures { λ r. ⌜ r ≡ rooms bits entries turns (now (frame .entry)) ⌝ }
@@ -110,7 +109,7 @@ fn send_rounds(start: Ledger, pdcp: u32, round: u32, turns: u32) -> u32
     sum
 }
 
-// Asks so many times for room, each time with a greater desired size.
+// Asks so many times for room, each time with a desired size that is greater by 1, or by 2 after an odd answer.
 fn room_turns(start: Ledger, turns: u32) -> u32
     ensures { λ r. ⌜ r ≡ total number askRoom (ledgerIn start) 0 turns % 2 ^ 32 ⌝ }
 {
@@ -118,8 +117,9 @@ fn room_turns(start: Ledger, turns: u32) -> u32
     let mut sum: u32 = 0;
     let mut i: u32 = 0;
     while i < turns {
-        sum = std::num::wrapping_add_u32(sum, ledger::room(l));
-        l.desired = std::num::wrapping_add_u32(l.desired, 1);
+        let room = ledger::room(l);
+        sum = std::num::wrapping_add_u32(sum, room);
+        l.desired = std::num::wrapping_add_u32(l.desired, 1 + room % 2);
         i += 1;
     }
     sum

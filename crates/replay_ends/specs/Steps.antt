@@ -78,5 +78,5 @@ abbrev pub playLedger : master.Ledger Unit → L.LedgerCall → List ℕ → Ste
 playLedger l (L.the-variants.Send pdcp size) frame = following A.the-variants.Sent (master.send l pdcp size tt)
 playLedger l (L.the-variants.Accept count) frame = following freedAnswer (master.accept l (take count frame))
 playLedger l L.the-variants.Take frame = following takenAnswer (master.takeOldest l)
-playLedger l L.the-variants.Room frame = answered l (A.the-variants.Room (master.room l))
+playLedger l L.the-variants.Room frame = answered l (A.the-variants.Room (master.keptRoom l))
 playLedger l L.the-variants.Show frame = shown l (ledgerFields l)

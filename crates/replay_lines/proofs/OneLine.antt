@@ -38,7 +38,7 @@ ledger-call : (l : master.Ledger Unit) (c : L.LedgerCall) (frame : List ℕ) →
 ledger-call l (L.the-variants.Send pdcp size) frame = answer-line (answerBy A.the-variants.Sent (master.send l pdcp size tt .answer))
 ledger-call l (L.the-variants.Accept count) frame = answer-line (answerBy freedAnswer (master.accept l (take count frame) .answer))
 ledger-call l L.the-variants.Take frame = answer-line (answerBy takenAnswer (master.takeOldest l .answer))
-ledger-call l L.the-variants.Room frame = answer-line (A.the-variants.Room (master.room l))
+ledger-call l L.the-variants.Room frame = answer-line (A.the-variants.Room (master.keptRoom l))
 ledger-call l L.the-variants.Show frame = ledger-line l
 
 open-call : (e : Ends) (k : Outcome secondary.Keeper) (l : Outcome (master.Ledger Unit)) → IsLine (opening e k l .line)

@@ -71,5 +71,6 @@ ledger-line l =
       unended-decimal (bit (l .closed)),
       unended-decimal (l .desired),
       unended-decimal (l .minimum),
+      unended-decimal (l .octets),
       unended-joined (map entryText (l .entries)) (entries-plain (l .entries)),
     ))

@@ -45,7 +45,7 @@ keeperFields k =
     ∷ joined (map recordText (k .records))
     ∷ []
 
--- next number, H, last sent, closed, desired, minimum, entries
+-- next number, H, last sent, closed, desired, minimum, sum of waiting sizes, entries
 abbrev pub ledgerFields : master.Ledger Unit → List (List ℕ)
 ledgerFields l =
     ascii "ledger"
@@ -55,5 +55,6 @@ ledgerFields l =
     ∷ decimal (bit (l .closed))
     ∷ decimal (l .desired)
     ∷ decimal (l .minimum)
+    ∷ decimal (l .octets)
     ∷ joined (map entryText (l .entries))
     ∷ []

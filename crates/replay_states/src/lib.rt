@@ -172,6 +172,15 @@ fn put_keeper(
     put_records(numbers, pdcps, marks, s.records, out, at)
 }
 
+// Both sizes of the last status and the sum of the waiting sizes, each with a tab before it.
+fn put_sizes(desired: u32, minimum: u32, octets: u32, out: &mut [u8], at: usize) -> usize
+    ensures { λ r. ⌜ Puts (now (out .entry)) at (tab ∷ (decimal desired ++ (tab ∷ (decimal minimum ++ (tab ∷ decimal octets))))) r (now (out .exit)) 33 ⌝ }
+{
+    let at = replay_parts::put_behind(TAB, desired, out, at);
+    let at = replay_parts::put_behind(TAB, minimum, out, at);
+    replay_parts::put_behind(TAB, octets, out, at)
+}
+
 // The fields of the master.
 fn put_ledger(l: Ledger, out: &mut [u8], at: usize) -> usize
     ensures { λ r. ⌜ Puts (now (out .entry)) at (parted tab (ledgerFields (ledgerIn l))) r (now (out .exit)) mostFields ⌝ }
@@ -182,8 +191,7 @@ fn put_ledger(l: Ledger, out: &mut [u8], at: usize) -> usize
     let at = replay_parts::put_behind(TAB, l.highest, out, at);
     let at = replay_parts::put_behind(TAB, l.sent, out, at);
     let at = replay_parts::put_behind(TAB, basics::flag(l.closed), out, at);
-    let at = replay_parts::put_behind(TAB, l.desired, out, at);
-    let at = replay_parts::put_behind(TAB, l.minimum, out, at);
+    let at = put_sizes(l.desired, l.minimum, l.octets, out, at);
     put_entries(entries, n, out, at)
 }
 

@@ -59,8 +59,9 @@ pub trait Side: 'static {
     /// into each copy of that ledger. The answer is the sum of their numbers.
     fn sends_behind(pdcp_bits: u32, entries: u32, turns: u32, octets: &[u8]) -> u32;
     /// Opens a master at number 0 and PDCP number 0, sends `entries` packets,
-    /// gives it the frame once, and asks for the room so many times, one octet
-    /// more being desired each time. The answer is the sum of the rooms.
+    /// gives it the frame once, and asks for the room so many times. Each answer
+    /// has one octet more desired, or two if it is odd, so that no turn can be
+    /// told without the one before. The answer is the sum of the rooms.
     fn rooms(pdcp_bits: u32, entries: u32, turns: u32, octets: &[u8]) -> u32;
 }
 

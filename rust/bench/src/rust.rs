@@ -147,16 +147,18 @@ impl Side for Rust {
         sum
     }
 
-    /// Only a status changes the desired size, so what is desired more is added
-    /// to the room, which is the same where there is room at all.
+    /// Only a status changes the desired size, so what is desired more is kept
+    /// beside the ledger and added to its room, which is the same where there is
+    /// room at all. Each room walks the entries: no sum of theirs is kept.
     #[inline(never)]
     fn rooms(pdcp_bits: u32, entries: u32, turns: u32, octets: &[u8]) -> u32 {
         let mut ledger = filled(pdcp_bits, entries);
         ledger.accept(octets).expect("the frame is accepted");
-        let mut sum = 0_u32;
-        for turn in 0..turns {
-            let room = black_box(&ledger).room();
-            sum = sum.wrapping_add(room.wrapping_add(turn));
+        let (mut sum, mut more) = (0_u32, 0_u32);
+        for _ in 0..turns {
+            let room = black_box(&ledger).room().wrapping_add(more);
+            sum = sum.wrapping_add(room);
+            more = more.wrapping_add(1 + room % 2);
         }
         sum
     }

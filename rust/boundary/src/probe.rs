@@ -36,7 +36,8 @@ pub fn ledger_accepts(length: u32, entries: u32, turns: u32, frame: &[u8]) -> u3
 }
 
 /// Opens a ledger, sends `entries` packets, accepts `frame` once, and asks for
-/// the room so many times, with another desired size each time.
+/// the room so many times. Each answer raises the desired size by 1, or by 2 if
+/// it is odd.
 #[inline]
 #[must_use]
 pub fn ledger_rooms(length: u32, entries: u32, turns: u32, frame: &[u8]) -> u32 {

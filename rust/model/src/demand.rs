@@ -32,6 +32,9 @@
 //! the master and where it is taken, and the room is the desired size of the
 //! frame accepted last less the sizes of all packets that wait, never below 0.
 //!
+//! And the sum of request Five: the octets that the master says wait are those
+//! of all packets that do, at any moment.
+//!
 //! "Declared lost" follows document 01's sentences on packet indexes; nothing
 //! here knows how the library keeps its state.
 
@@ -328,11 +331,13 @@ impl Watch {
         Ok(())
     }
 
-    /// The next frame in order reached the master, which holds `entries` now.
+    /// The next frame in order reached the master, which holds `entries` now and
+    /// says that so many octets of them wait.
     pub fn accepted<'a>(
         &mut self,
         answer: Result<Settled, Refusal>,
         entries: impl Iterator<Item = &'a Entry>,
+        octets: u32,
     ) -> Verdict {
         let frame = self.tally.accepted + 1;
         let settled =
@@ -349,12 +354,13 @@ impl Watch {
             settled.freed
         );
         self.tally.freed += u64::from(freed);
-        self.held(entries)
+        self.held(entries, octets)
     }
 
     /// What the master holds at any moment is each packet that is neither
-    /// freed nor taken, lost if an accepted frame named it.
-    pub fn held<'a>(&mut self, entries: impl Iterator<Item = &'a Entry>) -> Verdict {
+    /// freed nor taken, lost if an accepted frame named it; the octets that it
+    /// says wait are those of the packets that do.
+    pub fn held<'a>(&mut self, entries: impl Iterator<Item = &'a Entry>, octets: u32) -> Verdict {
         while self.held_from < self.settled && self.has_left(self.held_from) {
             self.held_from += 1;
         }
@@ -371,16 +377,18 @@ impl Watch {
         }
         let more = entries.next();
         check!(more.is_none(), "the master still holds {more:?}");
-        let oldest = self.oldest_waiting();
-        let waiting = (oldest..self.packets.len()).filter(|&packet| self.waits(packet));
-        self.in_order(waiting)
+        let expected = self.waiting_octets();
+        check!(
+            u64::from(octets) == expected,
+            "the master says that {octets} octets wait, but {expected} do"
+        );
+        let from = self.oldest_waiting();
+        self.in_order(self.waiting(from))
     }
 
     /// The master was asked for the room.
     pub fn room(&mut self, answer: u32) -> Verdict {
-        let oldest = self.oldest_waiting();
-        let waiting = (oldest..self.packets.len()).filter(|&packet| self.waits(packet));
-        let octets: u64 = waiting.map(|packet| u64::from(self.size(packet))).sum();
+        let octets = self.waiting_octets();
         let desired = u64::from(self.desired);
         let expected = desired.saturating_sub(octets);
         check!(
@@ -498,6 +506,20 @@ impl Watch {
             self.waiting_from += 1;
         }
         self.waiting_from
+    }
+
+    /// The packets that wait, from this one on.
+    fn waiting(&self, from: usize) -> impl Iterator<Item = usize> {
+        (from..self.packets.len()).filter(|&packet| self.waits(packet))
+    }
+
+    /// The sizes of all packets that wait.
+    fn waiting_octets(&mut self) -> u64 {
+        let from = self.oldest_waiting();
+        let sizes = self
+            .waiting(from)
+            .map(|packet| u64::from(self.size(packet)));
+        sizes.sum()
     }
 
     /// Checks the order of packets that wait, from the oldest on.

@@ -1,4 +1,4 @@
-//! Document 01, and requests One, Three and Four of document 02, retold without
+//! Document 01, and requests One and Three to Five of document 02, retold without
 //! circles: numbers are absolute indexes that never roll over, and each keeps its
 //! fate for ever. Slow, and meant to be read beside the documents. The models
 //! share nothing with the library but the names of the refusals.

@@ -127,10 +127,16 @@ impl Master {
         let Some((desired, _)) = self.sizes else {
             return 0;
         };
+        (i64::from(desired) - self.waiting_octets()).max(0) as u32
+    }
+
+    /// "the sum of waiting sizes"
+    #[must_use]
+    pub fn waiting_octets(&self) -> i64 {
         let sizes = self
             .waiting()
             .map(|index| i64::from(self.packets[index].size));
-        (i64::from(desired) - sizes.sum::<i64>()).max(0) as u32
+        sizes.sum()
     }
 
     /// The packets still held, in the order they were sent in.

@@ -116,7 +116,8 @@ impl Pair {
     pub fn deliver(&mut self) -> Option<Watched<Settled>> {
         let frame = self.frames.pop_front()?;
         let answer = self.ledger.accept(&frame);
-        let verdict = self.watch.accepted(answer, self.ledger.entries());
+        let octets = self.ledger.waiting_octets();
+        let verdict = self.watch.accepted(answer, self.ledger.entries(), octets);
         Some(verdict.map(|()| answer))
     }
 
@@ -139,6 +140,7 @@ impl Pair {
     /// Compares both ends with what the watch knows of them.
     pub fn check(&mut self) -> Result<(), String> {
         self.watch.listed(self.keeper.listed_runs())?;
-        self.watch.held(self.ledger.entries())
+        let octets = self.ledger.waiting_octets();
+        self.watch.held(self.ledger.entries(), octets)
     }
 }

@@ -52,9 +52,9 @@ fn a_refused_open_leaves_what_was_there() {
         [
             "ok",
             "refused\t10",
-            "ledger\t5\t5\t5\t0\t0\t0\tnone",
+            "ledger\t5\t5\t5\t0\t0\t0\t0\tnone",
             "ok",
-            "ledger\t9\t32767\t32767\t0\t0\t0\tnone",
+            "ledger\t9\t32767\t32767\t0\t0\t0\t0\tnone",
         ]
     );
 }
@@ -143,7 +143,10 @@ const SIZES: [(&str, &str); 18] = [
         "accept\t110000000040020000000101000100010000",
         "freed\t1\tlost\t1\tfinal\t0",
     ),
-    ("ledger", "ledger\t3\t0\t2\t0\t16386\t1\t1:1:l:1,2:2:w:40"),
+    (
+        "ledger",
+        "ledger\t3\t0\t2\t0\t16386\t1\t40\t1:1:l:1,2:2:w:40",
+    ),
     ("room", "room\t16346"),
     ("take", "taken\t1\t1\t1"),
     (

@@ -235,8 +235,7 @@ impl Bearer {
             Step::Take(count) => self.take(*count)?,
         }
         self.trace.call(&Call::Keeper, Event::Keeper);
-        self.trace.call(&Call::Ledger, Event::Ledger);
-        self.pair.check()?;
+        self.look()?;
         self.room()
     }
 
@@ -388,6 +387,12 @@ impl Bearer {
         built.map(|_| ())
     }
 
+    /// A look at the master, and at the sum of what waits there.
+    fn look(&mut self) -> Result<(), String> {
+        self.trace.call(&Call::Ledger, Event::Ledger);
+        self.pair.check()
+    }
+
     /// The room is asked for.
     fn room(&mut self) -> Result<(), String> {
         self.trace.call(&Call::Room, Event::Room);
@@ -411,11 +416,19 @@ impl Bearer {
         Ok(())
     }
 
+    /// Takes, with a look behind the first, and behind each on a closed end:
+    /// there what waits is given out too.
     fn take(&mut self, count: usize) -> Result<(), String> {
-        for _ in 0..count {
+        for turn in 0..count {
             self.trace.call(&Call::Take, Event::Taken);
-            let taken = self.pair.take()?;
-            if taken.is_ok() && self.pair.ledger.is_closed() {
+            if self.pair.take()?.is_err() {
+                continue;
+            }
+            let closed = self.pair.ledger.is_closed();
+            if closed || turn == 0 {
+                self.look()?;
+            }
+            if closed {
                 self.room()?;
             }
         }

@@ -3,6 +3,7 @@
 use crate::scripts::Script;
 use crate::suite::Verdict;
 use soak::process;
+use soak::sums::Sums;
 use soak::table::Table;
 use std::path::Path;
 
@@ -38,13 +39,23 @@ pub fn answers_alike(programs: [&Path; 2], script: &Script) -> Result<Vec<Vec<u8
     Ok(product)
 }
 
+/// What the product answered, in figures.
+#[derive(Clone, Debug, Default)]
+pub struct Answered {
+    /// How often each answer was given.
+    pub table: Table,
+    /// What the looks at the sum of what waits were behind.
+    pub sums: Sums,
+}
+
 /// Both programs answer alike; the product's answers are counted.
-pub fn alike(programs: [&Path; 2], script: &Script, table: &mut Table) -> Verdict {
+pub fn alike(programs: [&Path; 2], script: &Script, answered: &mut Answered) -> Verdict {
     let answers = answers_alike(programs, script)?;
     for (line, answer) in script.0.iter().zip(&answers) {
         let word = line.split(|&octet| octet == b'\t').next();
-        table.count(word.unwrap_or_default(), answer);
+        answered.table.count(word.unwrap_or_default(), answer);
     }
+    answered.sums.see_all(&script.0, &answers);
     Ok(())
 }
 

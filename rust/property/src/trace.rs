@@ -137,7 +137,10 @@ impl Told {
                 None => Err(format!("not refused: {said:?}")),
             },
             Event::Keeper => self.watch.listed(&said.runs()?),
-            Event::Ledger => self.watch.held(said.entries()?.iter()),
+            Event::Ledger => {
+                let shown = said.ledger()?;
+                self.watch.held(shown.entries.iter(), shown.octets)
+            }
         }
     }
 
@@ -167,9 +170,10 @@ impl Told {
             return Err(format!("{built:?} was built, but {delivered:?} delivered"));
         }
         let settled = said.settled()?;
-        let entries = next.map(|next| Said::of(next).entries());
-        let entries = entries.ok_or("no look at the master follows")??;
-        self.watch.accepted(settled, entries.iter())?;
+        let shown = next.map(|next| Said::of(next).ledger());
+        let shown = shown.ok_or("no look at the master follows")??;
+        self.watch
+            .accepted(settled, shown.entries.iter(), shown.octets)?;
         self.closed |= settled.is_ok_and(|settled| settled.is_final);
         Ok(())
     }
@@ -279,27 +283,56 @@ impl<'a> Said<'a> {
         }
     }
 
-    fn entries(&self) -> Result<Vec<Entry>, String> {
+    fn ledger(&self) -> Result<Shown, String> {
         match self.fields[..] {
-            ["ledger", _, _, _, _, _, _, entries] => listed(entries, |entry| {
-                let parts: Vec<&str> = entry.split(':').collect();
-                let [number, pdcp, fate, size] = parts[..] else {
-                    return None;
-                };
-                Some(Entry {
-                    number: number.parse().ok()?,
-                    pdcp: pdcp.parse().ok()?,
-                    size: size.parse().ok()?,
-                    fate: match fate {
-                        "w" => Fate::Waiting,
-                        "l" => Fate::Lost,
-                        _ => return None,
-                    },
-                })
-            }),
+            ["ledger", _, _, _, _, _, _, octets, entries] => Shown {
+                octets: number_of(octets)?,
+                entries: listed(entries, entry_of)?,
+            }
+            .added_up(),
             _ => self.wrong(),
         }
     }
+}
+
+/// What a `ledger` line shows of the master.
+struct Shown {
+    /// How many octets wait, by its sum.
+    octets: u32,
+    entries: Vec<Entry>,
+}
+
+impl Shown {
+    /// Itself, if its sum is that over the entries beside it.
+    fn added_up(self) -> Result<Self, String> {
+        let waiting = self.entries.iter().filter(|e| e.fate == Fate::Waiting);
+        let sum: u64 = waiting.map(|entry| u64::from(entry.size)).sum();
+        if u64::from(self.octets) == sum {
+            return Ok(self);
+        }
+        let octets = self.octets;
+        Err(format!(
+            "{octets} octets wait, it says, but its entries that wait have {sum}"
+        ))
+    }
+}
+
+/// An entry as a `ledger` line lists it.
+fn entry_of(text: &str) -> Option<Entry> {
+    let parts: Vec<&str> = text.split(':').collect();
+    let [number, pdcp, fate, size] = parts[..] else {
+        return None;
+    };
+    Some(Entry {
+        number: number.parse().ok()?,
+        pdcp: pdcp.parse().ok()?,
+        size: size.parse().ok()?,
+        fate: match fate {
+            "w" => Fate::Waiting,
+            "l" => Fate::Lost,
+            _ => return None,
+        },
+    })
 }
 
 fn number_of(field: &str) -> Result<u32, String> {

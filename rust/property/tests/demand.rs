@@ -1,32 +1,52 @@
 //! Demand 3 on random bearers, by packet identity.
 
 use model::{Opening, Watch};
+use programs::replay::Replay;
 use property::bearer::{Bearer, Step, openings, steps};
 use property::suite::holds_on;
 use proptest::collection::vec;
 use proptest::prelude::*;
 use soak::order::Sends;
 use soak::sizes::{Desired, Sizes};
+use soak::sums::Sums;
 use std::cell::RefCell;
 use x2u::Refusal;
 use x2u::frame::LONGEST;
 
+/// The library's answers to lines.
+fn answers(lines: &[Vec<u8>]) -> Vec<Vec<u8>> {
+    let mut replay = Replay::default();
+    let answer = |line: &Vec<u8>| {
+        let mut out = Vec::new();
+        replay.answer(Some(line), &mut out).unwrap();
+        out.pop();
+        out
+    };
+    lines.iter().map(answer).collect()
+}
+
 #[test]
 fn demand_3_holds() {
-    let met = RefCell::new((Sends::default(), Sizes::default()));
+    let met = RefCell::new((Sends::default(), Sizes::default(), Sums::default()));
     let bearers = (openings(6), vec(steps(), 1..120));
     holds_on(300, &bearers, |(opening, steps)| {
         let mut bearer = Bearer::new(opening);
         for step in &steps {
             bearer.make(step).map_err(TestCaseError::fail)?;
         }
-        met.borrow_mut().0.add(bearer.sends);
-        met.borrow_mut().1.add(bearer.sizes);
+        let trace = &bearer.trace;
+        let answers = answers(&trace.lines);
+        trace.check(&answers).map_err(TestCaseError::fail)?;
+        let (sends, sizes, sums) = &mut *met.borrow_mut();
+        sends.add(bearer.sends);
+        sizes.add(bearer.sizes);
+        sums.see_all(&trace.lines, &answers);
         Ok(())
     });
-    let (sends, sizes) = met.into_inner();
+    let (sends, sizes, sums) = met.into_inner();
     assert!(sends.least() >= 50, "{sends}");
     assert!(sizes.least() >= 10, "{sizes}");
+    assert!(sums.least() >= 10, "{sums}");
 }
 
 /// More runs than a frame carries: the highest is held back, and demand 3 with
@@ -234,6 +254,40 @@ fn the_watch_sees_a_wrong_room_and_a_wrong_size() {
     for (answer, seen) in [(size - 1, true), (size, false), (size + 1, true)] {
         let told = watch.clone().taken(false, Ok((0, 0, answer)));
         assert_eq!(told.is_err(), seen, "{answer}");
+    }
+}
+
+/// A sum that isn't the packets', with the entries beside it being right.
+#[test]
+fn the_watch_sees_a_wrong_sum() {
+    let mut bearer = Bearer::new(PLAIN);
+    for step in [
+        Step::send(10),
+        Step::Arrive {
+            dropped: 1,
+            period: 5,
+            count: 8,
+        },
+        Step::Expire,
+        Step::status(false),
+        Step::Deliver(1),
+    ] {
+        bearer.make(&step).unwrap();
+    }
+    let (watch, ledger) = (&bearer.pair.watch, &bearer.pair.ledger);
+    let octets: u32 = (0..10).map(|packet| watch.size(packet)).sum();
+    // Packets 0 and 5 are lost, and count no more.
+    let waiting = octets - watch.size(0) - watch.size(5);
+    for (sum, seen) in [
+        (waiting, false),
+        (waiting - 1, true),
+        (waiting + 1, true),
+        (waiting + watch.size(0), true),
+        (octets, true),
+        (0, true),
+    ] {
+        let told = watch.clone().held(ledger.entries(), sum);
+        assert_eq!(told.is_err(), seen, "{sum}: {told:?}");
     }
 }
 

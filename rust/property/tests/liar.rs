@@ -2,7 +2,7 @@
 
 use model::Opening;
 use property::bearer::{Bearer, Step};
-use property::replay::{alike, answers_alike};
+use property::replay::{Answered, alike, answers_alike};
 use property::scripts::{Aim, Script};
 use property::suite::Suite;
 use soak::table::Table;
@@ -38,10 +38,10 @@ fn a_lie_fails_its_property_and_is_shrunk() {
     let honest = sibling("replay");
     let liar = liar("wrong-number", "s/^refused.17$/refused\\t71/");
     let mut suite = Suite::new(1);
-    let mut table = Table::default();
+    let mut answered = Answered::default();
     let smallest = RefCell::new(Script(Vec::new()));
     suite.property("a lie", 3, &Aim::Moods(500), |script| {
-        let verdict = alike([&honest, &liar], script, &mut table);
+        let verdict = alike([&honest, &liar], script, &mut answered);
         if verdict.is_err() {
             smallest.replace(script.clone());
         }
@@ -101,6 +101,13 @@ fn bearer() -> Bearer {
     bearer
 }
 
+/// A look at the master with another sum of what waits.
+fn with_sum(answer: &str, other: fn(u32) -> u32) -> String {
+    let mut fields: Vec<String> = answer.split('\t').map(str::to_owned).collect();
+    fields[7] = other(fields[7].parse().unwrap()).to_string();
+    fields.join("\t")
+}
+
 #[test]
 fn demand_3_is_told_from_answers_alone() {
     let trace = bearer().trace;
@@ -114,13 +121,15 @@ fn demand_3_is_told_from_answers_alone() {
 
     // Each of these lies is a violation, at whatever line the answer stands.
     type Lie = fn(&str) -> String;
-    let lies: [(&str, Lie); 9] = [
+    let lies: [(&str, Lie); 11] = [
         ("sent", |answer| answer.replace("65530", "65531")),
         ("lost", |answer| answer.replace("\t2", "\t1")),
         ("frame", |answer| answer.replace("02fffa", "02fffb")),
         ("freed", |answer| answer.replace("freed\t8", "freed\t7")),
         ("ledger", |answer| answer.replacen(":l", ":w", 1)),
         ("ledger", |answer| answer.replacen(":l:1", ":l:2", 1)),
+        ("ledger", |answer| with_sum(answer, |octets| octets + 1)),
+        ("ledger", |answer| with_sum(answer, |_| 0)),
         ("taken", |answer| answer.replace("65530", "65531")),
         ("taken", |answer| format!("{answer}0")),
         ("room", |answer| format!("{answer}1")),

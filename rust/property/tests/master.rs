@@ -219,6 +219,8 @@ impl Test {
     fn room(&mut self) -> Result<(), TestCaseError> {
         self.sizes.room(&self.ledger);
         prop_assert_eq!(self.ledger.room(), self.model.room());
+        let octets = i64::from(self.ledger.waiting_octets());
+        prop_assert_eq!(octets, self.model.waiting_octets());
         Ok(())
     }
 

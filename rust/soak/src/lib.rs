@@ -12,4 +12,5 @@ pub mod rng;
 pub mod script;
 pub mod shrink;
 pub mod sizes;
+pub mod sums;
 pub mod table;

@@ -130,7 +130,10 @@ impl Naive {
         let (highest, last_sent) = model.pdcp_marks();
         let (desired, minimum) = model.sizes();
         let closed = u8::from(model.is_closed());
-        format!("ledger\t{next}\t{highest}\t{last_sent}\t{closed}\t{desired}\t{minimum}\t{entries}")
+        let octets = model.waiting_octets();
+        format!(
+            "ledger\t{next}\t{highest}\t{last_sent}\t{closed}\t{desired}\t{minimum}\t{octets}\t{entries}"
+        )
     }
 }
 

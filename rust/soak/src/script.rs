@@ -9,6 +9,7 @@ use crate::sizes::{self, LIMITS, Sizes};
 use std::collections::VecDeque;
 use std::io::Write;
 use x2u::frame::LONGEST;
+use x2u::ledger::LARGEST_SIZE;
 use x2u::{Bearer, Keeper, Ledger};
 
 /// Both ends as they stand after the calls written so far.
@@ -210,6 +211,12 @@ impl Script {
         self.send_at_limit(pdcp.step(self.ends.ledger.last_sent(), 1));
     }
 
+    /// The same with the largest PDU there is.
+    pub fn send_next_largest(&mut self) {
+        let pdcp = self.ends.bearer.pdcp;
+        self.send_sized(pdcp.step(self.ends.ledger.last_sent(), 1), LARGEST_SIZE);
+    }
+
     /// A send at a limit of the PDCP order, or one or two beside it; one in
     /// five at a limit of sizes too.
     pub fn send_at_edge(&mut self) {
@@ -262,10 +269,15 @@ impl Script {
         self.line(b"room", &[]);
     }
 
+    /// Shows the master, and the sum of what waits there.
+    pub fn ledger(&mut self) {
+        self.line(b"ledger", &[]);
+    }
+
     /// Shows both ends, and the room.
     pub fn show(&mut self) {
         self.line(b"keeper", &[]);
-        self.line(b"ledger", &[]);
+        self.ledger();
         self.room();
     }
 }

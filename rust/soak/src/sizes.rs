@@ -4,7 +4,7 @@
 use crate::rng::Rng;
 use std::fmt::{self, Display, Formatter};
 use x2u::frame::LONGEST;
-use x2u::ledger::{Entry, Fate, LARGEST_SIZE};
+use x2u::ledger::{Fate, LARGEST_SIZE};
 use x2u::{Answer, Keeper, Ledger, Refusal};
 
 /// Sizes at their limits, and beyond; one that is allowed in its last 16 bits.
@@ -106,7 +106,7 @@ pub fn desired(rng: &mut Rng, left: u32) -> u32 {
 pub fn left(ledger: &Ledger, frame: &[u8]) -> u32 {
     let mut ledger = ledger.clone();
     let _ = ledger.accept(frame);
-    held(&ledger, Fate::Waiting)
+    ledger.waiting_octets()
 }
 
 /// The octets that wait once these frames have come to the master, and behind
@@ -126,11 +126,10 @@ pub fn left_by_status<'a>(
     left(&ledger, &buffer[..built.unwrap_or(0)])
 }
 
-/// The octets of the entries of a fate.
-fn held(ledger: &Ledger, fate: Fate) -> u32 {
-    let of_fate = |entry: &&Entry| entry.fate == fate;
-    let sizes = ledger.entries().filter(of_fate).map(|e| u32::from(e.size));
-    sizes.sum()
+/// The octets of the entries that are lost.
+fn lost_octets(ledger: &Ledger) -> u32 {
+    let lost = ledger.entries().filter(|entry| entry.fate == Fate::Lost);
+    lost.map(|entry| u32::from(entry.size)).sum()
 }
 
 /// A send, and what it would have come to with another size.
@@ -236,8 +235,8 @@ impl Sizes {
         let asked = Asked {
             room: ledger.room(),
             desired: ledger.desired(),
-            waiting: held(ledger, Fate::Waiting),
-            lost: held(ledger, Fate::Lost),
+            waiting: ledger.waiting_octets(),
+            lost: lost_octets(ledger),
             closed: ledger.is_closed(),
         };
         for (times, (_, is_met)) in self.rooms.iter_mut().zip(ROOMS) {

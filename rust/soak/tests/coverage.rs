@@ -7,6 +7,7 @@ use soak::moods;
 use soak::order::Sends;
 use soak::rng::Rng;
 use soak::sizes::Sizes;
+use soak::sums::Sums;
 use soak::table::Table;
 use std::io;
 use x2u::Refusal;
@@ -42,6 +43,19 @@ fn scripts_meet_every_refusal_often() {
         let times = table.times(refusal);
         assert!(times >= 40, "{refusal:?} was given {times} times");
     }
+}
+
+/// The sum of what waits is looked at behind all that moves it, and behind what
+/// must not.
+#[test]
+fn scripts_look_at_the_sum_often() {
+    let (mut replay, mut sums) = (Replay::default(), Sums::default());
+    counted(&mut Scripts::new(7), 500_000, |line, out| {
+        replay.answer(Some(line), out)?;
+        sums.see(line, out.strip_suffix(b"\n").unwrap_or(out));
+        Ok(())
+    });
+    assert!(sums.least() >= 100, "{sums}");
 }
 
 #[test]

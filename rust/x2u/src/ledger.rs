@@ -182,14 +182,21 @@ impl Ledger {
         self.minimum
     }
 
+    /// The sizes of all entries that wait. They are added up whenever somebody
+    /// asks: a ledger that keeps the sum is compared with this one.
+    #[must_use]
+    pub fn waiting_octets(&self) -> u32 {
+        // 512 of the largest fit.
+        let sizes = self.waiting().map(|(_, entry)| u32::from(entry.size));
+        sizes.sum()
+    }
+
     /// How many octets the secondary still wants: the desired size of the last
     /// status less the sizes of all entries that wait, and 0 if they are more,
     /// or before any status.
     #[must_use]
     pub fn room(&self) -> u32 {
-        // 512 of the largest fit.
-        let sizes = self.waiting().map(|(_, entry)| u32::from(entry.size));
-        self.desired.saturating_sub(sizes.sum())
+        self.desired.saturating_sub(self.waiting_octets())
     }
 
     /// The entries, in sending order.

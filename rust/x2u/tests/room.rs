@@ -238,10 +238,40 @@ fn room_of_a_closed_end_does_not_go_below_zero() {
     assert_eq!(ledger.room(), 16_384);
 }
 
+/// A send adds its octets. What is lost, freed or given out by a closed end takes
+/// its own away, once; whatever is desired.
+#[test]
+fn the_octets_that_wait() {
+    assert_eq!(ledger_with(&[]).waiting_octets(), 0);
+    let mut ledger = ledger_with(&[100, 50, 7, 16_384, 3]);
+    assert_eq!(ledger.waiting_octets(), 16_544);
+    assert!(ledger.send(4, 9).is_err());
+    assert!(ledger.accept(&status(9, 9, &[], false)).is_err());
+    assert!(ledger.take().is_err());
+    assert_eq!(ledger.waiting_octets(), 16_544);
+    for (highest, lost, is_final, octets) in [
+        (4_095, Some(1), false, 16_494),
+        (0, None, false, 16_394),
+        (0, None, false, 16_394),
+        (2, Some(4), true, 16_384),
+    ] {
+        let ranges: Vec<Range> = lost.map(|number| run(number, number)).into_iter().collect();
+        ledger
+            .accept(&status(highest, 0, &ranges, is_final))
+            .unwrap();
+        assert_eq!(ledger.waiting_octets(), octets, "highest {highest}");
+    }
+    for (entry, octets) in [((1, 1, 50), 16_384), ((3, 3, 16_384), 0), ((4, 4, 3), 0)] {
+        assert_eq!(taken(&mut ledger), Ok(entry));
+        assert_eq!(ledger.waiting_octets(), octets, "behind {entry:?}");
+    }
+}
+
 #[test]
 fn a_full_ledger_of_the_largest() {
     let mut ledger = ledger_with(&[LARGEST_SIZE; MOST_ENTRIES]);
     let all = 512 * 16_384;
+    assert_eq!(ledger.waiting_octets(), all);
     for (desired, room) in [
         (all - 1, 0),
         (all, 0),

@@ -1,7 +1,7 @@
 -- Labels change nothing: the master's machine on entries with one kind of label, and on the same entries relabelled, gives the same answers
 -- and the same ledger relabelled. So what is proved with packets written on the entries holds of the engine's entries, which bear none.
 -- Assumes nothing.
-use mathlib.Core.Path.{_≡_, refl, sym, _∙_, ap}
+use mathlib.Core.Path.{_≡_, refl, sym, _∙_, ap, ap₂}
 use mathlib.Core.Bool.{Bool, true, false, not}
 use mathlib.Core.List.{List, [], _∷_, _++_, map}
 use mathlib.Core.Option.{Option, none, some}
@@ -14,7 +14,7 @@ use Rattle.basics.proofs.Lists.{map-take, map-drop}
 use Rattle.circle.specs.Lengths.{isLong, pdcps}
 use Rattle.frame_layout.specs.Frames.{Range, Status, Reading, data-of, status-of, refuse, readFrame}
 use Rattle.bearer.specs.Bearer.{After, refusing, answering, mostEntries}
-use Rattle.bearer.specs.Ledger.{Entry, Ledger, _with-highest_, _with-closed_, _with-sizes-of_, _with-oldest_, _with-entries_, waitingAt, holding, follows, placeWithout, newEntry, countsOf, acceptedState, takenOf, Passed, waits, bears, noteIn, afterNumber, markLost, waitsFor, kept, counted, freeThrough, freed, inOrder, isSize, send, sentState, acceptMarked, acceptReading, accept, takeAt, takeFrom, takeOldest, waitingSizes, room}
+use Rattle.bearer.specs.Ledger.{Entry, Ledger, _with-highest_, _with-closed_, _with-sizes-of_, _with-octets_, _with-oldest_, _with-entries_, waitingAt, waitingSizes, lowered, holding, follows, placeWithout, newEntry, countsOf, acceptedState, takenOf, Passed, waits, bears, noteIn, afterNumber, markLost, waitsFor, kept, counted, freeThrough, freed, inOrder, isSize, send, sentState, acceptMarked, acceptReading, accept, takeAt, takeFrom, takeOldest}
 
 module _ {A B : Type 0} (f : A → B) where
   -- an entry, a ledger, a pass and a call's outcome under other labels
@@ -54,24 +54,35 @@ module _ {A B : Type 0} (f : A → B) where
       ap (λ (b : Bool). not (eqb p (l .highest)) and b)
       (ap (follows (relabelled l) p) (map-drop entryAs (l .oldest) (l .entries)) ∙ follows-as l p (drop (l .oldest) (l .entries)))
 
+  sent-as : (l : Ledger A) (p z : ℕ) (a : A) → sentState (relabelled l) p z (f a) ≡ relabelled (sentState l p z a)
+  sent-as l p z a = ap (λ (es : List (Entry B)). sentState l p z a with-entries es) (sym (entries-append (l .entries) (newEntry (l .next) p z a ∷ [])))
+
   pub send-as : (l : Ledger A) (p z : ℕ) (a : A) → send (relabelled l) p z (f a) ≡ outcomeAs (send l p z a)
   send-as l p z a =
-      let sent = ap (λ (es : List (Entry B)). answering (l .next) (sentState l p z a with-entries es)) (sym (entries-append (l .entries) (newEntry (l .next) p z a ∷ []))) in
-      let stored = choice outcomeAs {u = refusing 36 l} {v = answering (l .next) (sentState l p z a)} (ap (leb mostEntries) (length-map (l .entries) entryAs)) refl sent in
-      let ordered = choice outcomeAs {u = refusing 35 l} (ap not (order-as l p)) refl stored in
-      choice outcomeAs {t = l .closed} refl refl
-      (choice outcomeAs {t = not (ltb p (pdcps (l .bits)))} refl refl
-      (choice outcomeAs {t = not (isSize z)} refl refl ordered))
+      choice outcomeAs {t = l .closed} {u = refusing 9 l} refl refl
+      (choice outcomeAs {t = not (ltb p (pdcps (l .bits)))} {u = refusing 10 l} refl refl
+      (choice outcomeAs {t = not (isSize z)} {u = refusing 39 l} refl refl
+      (choice outcomeAs {u = refusing 35 l} (ap not (order-as l p)) refl
+      (choice outcomeAs {u = refusing 36 l} {v = answering (l .next) (sentState l p z a)} (ap (leb mostEntries) (length-map (l .entries) entryAs)) refl
+      (ap (answering (l .next)) (sent-as l p z a))))))
 
-  -- ---- where the oldest waiting entry stands
+  -- ---- where the oldest waiting entry stands, and how much waits
 
   waiting-at-as : (es : List (Entry A)) → waitingAt (entriesAs es) ≡ waitingAt es
   waiting-at-as [] = refl
   waiting-at-as (e ∷ es) = ap (λ (n : ℕ). if waits e then 0 else suc n) (waiting-at-as es)
 
+  pub waiting-sizes-as : (es : List (Entry A)) → waitingSizes (entriesAs es) ≡ waitingSizes es
+  waiting-sizes-as [] = refl
+  waiting-sizes-as (e ∷ es) = ap (λ (n : ℕ). if waits e then e .size + n else n) (waiting-sizes-as es)
+
+  lowered-as : (octets : ℕ) (es ds : List (Entry A)) → lowered octets (entriesAs es) (entriesAs ds) ≡ lowered octets es ds
+  lowered-as octets es ds = ap₂ (λ (a b : ℕ). octets - (a - b)) (waiting-sizes-as es) (waiting-sizes-as ds)
+
   holding-as : (l : Ledger A) (n : ℕ) (es : List (Entry A)) → holding (relabelled l) n (entriesAs es) ≡ relabelled (holding l n es)
   holding-as l n es =
-      ap (λ (k : ℕ). l with-oldest n + k with-entries entriesAs es) (ap waitingAt (map-drop entryAs n es) ∙ waiting-at-as (drop n es))
+      ap₂ (λ (k o : ℕ). l with-oldest n + k with-octets o with-entries entriesAs es)
+      (ap waitingAt (map-drop entryAs n es) ∙ waiting-at-as (drop n es)) (lowered-as (l .octets) (l .entries) es)
 
   -- ---- accepting
 
@@ -140,12 +151,3 @@ module _ {A B : Type 0} (f : A → B) where
       ∙ ap (λ (xs : List (Entry B)). takeFrom (relabelled l) xs (drop n (entriesAs (l .entries)))) (map-take entryAs n (l .entries))
       ∙ ap (takeFrom (relabelled l) (entriesAs (take n (l .entries)))) (map-drop entryAs n (l .entries))
       ∙ take-from-as l (take n (l .entries)) (drop n (l .entries))
-
-  -- ---- room
-
-  waiting-sizes-as : (es : List (Entry A)) → waitingSizes (entriesAs es) ≡ waitingSizes es
-  waiting-sizes-as [] = refl
-  waiting-sizes-as (e ∷ es) = ap (λ (n : ℕ). if waits e then e .size + n else n) (waiting-sizes-as es)
-
-  pub room-as : (l : Ledger A) → room (relabelled l) ≡ room l
-  room-as l = ap (λ (n : ℕ). l .desired - n) (waiting-sizes-as (l .entries))

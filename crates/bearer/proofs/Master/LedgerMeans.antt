@@ -16,7 +16,7 @@ use Rattle.circle.specs.Circle.{forward}
 use Rattle.circle.specs.Lengths.{isLength, modulusOf, pdcps, pdcpBefore}
 use Rattle.frame_layout.specs.Frames.{Status, status-of, readFrame}
 use Rattle.bearer.specs.Bearer.{mostEntries}
-use Rattle.bearer.specs.Ledger.{newEntry, Entry, Ledger, holding, Accepted, Taken, takenOf, waits, freshLedger, openLedger, isSize, inOrder, send, sentState, accept, takeFrom, takeOldest, takeAt}
+use Rattle.bearer.specs.Ledger.{newEntry, Entry, Ledger, holding, Accepted, Taken, takenOf, waits, waitingSizes, freed, freshLedger, openLedger, isSize, inOrder, send, sentState, accept, takeFrom, takeOldest, takeAt}
 use Rattle.bearer.specs.Packets.{lastOf, packets, Rising, In, Each}
 use Rattle.bearer.specs.LedgerMeaning.{Books, begun, sending, accepting, taking, lastSent, LedgerReached, opened as opens, sends, accepts, takes, waitingIn, lostIn, oldestPdcp, StatusMeans, TakenFrom, this-one, passes-over, LedgersMean, SendsMean, TakesMean, StatusesMean}
 use Rattle.bearer.proofs.Lists.Mapped.{each-so, each-both}
@@ -32,7 +32,7 @@ use Rattle.bearer.proofs.Master.Sound.{waiting-sent, Master, Sends, sen
 use Rattle.bearer.proofs.Master.Takes.{Left, take-cases, master-left}
 use Rattle.bearer.proofs.Master.Turned.{Turns}
 use Rattle.bearer.proofs.Master.Applied.{master-opened, master-turns, length-turned}
-use Rattle.bearer.proofs.Master.Sizes.{SizedAs, sized-sends, sized-turned, sized-freed, sizes-of-waiting, sizes-few, room-by}
+use Rattle.bearer.proofs.Master.Sizes.{SizedAs, sized-sends, sized-turned, sized-freed, sizes-of-waiting, sizes-few, sizes-of-entries, room-by, sum-raised, sum-lowered, status-less, take-less}
 use Rattle.bearer.proofs.Master.AcceptsAny.{Passes, passes, freed-count, Frees, frees-by}
 
 -- ---- every reached ledger is sound
@@ -45,7 +45,7 @@ pub record Figures (L f : ℕ) (l : Ledger ℕ) (b : Books) : Type 0 where
   pub minimum-is : l .minimum ≡ b .minimum
   pub closed-is : l .closed ≡ b .final
 
--- a sound ledger with these figures, the sizes of its packets, and the sum; before any status nothing is desired
+-- a sound ledger with these figures, the sizes of its packets and their sum, and the sum of the counts; before any status nothing is desired
 pub record Sound (L first f : ℕ) (l : Ledger ℕ) (b : Books) : Type 0 where
   pub ok : isLength L ≡ true
   pub cut : ℕ
@@ -54,6 +54,7 @@ pub record Sound (L first f : ℕ) (l : Ledger ℕ) (b : Books) : Type 0 where
   pub unheard : b .heard ≡ false → b .desired ≡ 0
   pub as-many : length (b .sizes) ≡ length (b .sent)
   pub sized : Each (SizedAs (b .sizes)) (l .entries)
+  pub summed : l .octets ≡ waitingSizes (l .entries)
   pub sum : length (l .entries) + b .freed + b .taken ≡ length (b .sent)
 
 module _ {L first f : ℕ} {l : Ledger ℕ} {b : Books} (x : Sound L first f l b) (o : List ℕ) (a : Accepted) (p : Passes l o a) where
@@ -96,6 +97,7 @@ module _ {L first f : ℕ} {l : Ledger ℕ} {b : Books} (x : Sound L first f l b
     unheard = λ e. absurd (contrary refl e);
     as-many = x .as-many;
     sized = sized-freed (b .sizes) (status-means .are-freed) (sized-turned (b .sizes) (status-means .become-lost) (x .sized));
+    summed = rw (p .state-is) (sum-lowered (l .entries) (freed l (p .frame .highest) (p .pass .entries) .entries) (l .octets) (status-less (turned-by .turned) (freed-so .freed-by)) (x .summed));
     sum = let h = x .sum in omega (arith, left-count, h);
   })
     where
@@ -130,6 +132,7 @@ module _ {L first f : ℕ} {l : Ledger ℕ} {b : Books} (x : Sound L first f l b
             unheard = x .unheard;
             as-many = let h = x .as-many in omega (arith, h, length-append (b .sent) (p ∷ []), length-append (b .sizes) (z ∷ []));
             sized = rw (← x .as-many) (sized-sends (b .sizes) (l .entries) (l .next) p z (s .sized) (x .sized));
+            summed = sum-raised (b .sizes) (l .entries) (l .next) p z (length (b .sent)) (l .octets) (s .not-full) (s .sized .1) (x .sized) (x .summed);
             sum = let h = x .sum in omega (arith, h, length-append (l .entries) (newEntry (l .next) p z (length (b .sent)) ∷ []), length-append (b .sent) (p ∷ []));
           }
 
@@ -147,6 +150,7 @@ module _ {L first f : ℕ} {l : Ledger ℕ} {b : Books} (x : Sound L first f l b
         unheard = x .unheard;
         as-many = x .as-many;
         sized = rw (left .are) (each-without (left .front) (left .gone) (left .back) _ (rw (left .were) at (x .sized)));
+        summed = rw (left .are) (sum-lowered (l .entries) (left .front ++ left .back) (l .octets) (less-waits left) (x .summed));
         sum = let h = x .sum in omega (arith, h, less, whole);
       }
     where
@@ -156,6 +160,9 @@ module _ {L first f : ℕ} {l : Ledger ℕ} {b : Books} (x : Sound L first f l b
       shorter : (front es : List (Entry ℕ)) → takeFrom l front es .answer ≡ done t → suc (length (takeFrom l front es .state .entries)) ≡ length front + length es
       shorter front [] e = never-done _ t e
       shorter front (d ∷ es) e = omega (arith, length-append front es)
+
+      less-waits : {t : Ledger ℕ} (a : Left l t) → waitingSizes (a .front ++ a .back) ≤ waitingSizes (l .entries)
+      less-waits a = let were = ap waitingSizes (a .were) in omega (arith, were, take-less (a .front) (a .gone) (a .back))
 
       same-figures : (n : ℕ) (es : List (Entry ℕ)) → Figures L f (holding l n es) (taking b)
       same-figures n es =
@@ -174,6 +181,7 @@ open-step L first f l e =
       unheard = λ e. refl;
       as-many = refl;
       sized = tt;
+      summed = refl;
       sum = refl;
     })
 
@@ -273,6 +281,8 @@ ledgers-mean L first f l b x =
       minimum-is = g .minimum-is;
       closed-is = g .closed-is;
       room-is = room-by l b (g .desired-is) (s .unheard) (s .sized);
+      octets-are = s .summed ∙ sizes-of-entries (l .entries);
+      kept-room-is = ap (λ (n : ℕ). l .desired - n) (s .summed);
       sum = let h = s .sum in omega (arith, h, counts-sum (l .entries));
       in-order = e .rising;
       were-sent = each-so (l .entries) (λ d k. k .was-sent) (e .sent-as);

@@ -9,6 +9,7 @@ use Rattle.bearer.specs.Ledger.{markLost}
 use Rattle.frame_reader.specs.declared.Cursor.{Cursor}
 use Rattle.frame_reader.specs.Answers.{cursorOf}
 use Rattle.ledger_marks.specs.Walked.{walked, markedAs}
+use Rattle.ledger_entries.proofs.Sums.{lowers-then}
 use Rattle.ledger_marks.proofs.Walks.{all-met}
 use Rattle.ledger.specs.View.{ledgerIn}
 use Rattle.ledger.specs.Steps.{statusIn}
@@ -45,7 +46,7 @@ marks : (k : tie.After-mark) → markedAs (k .mark .result) (start k .args .l .c
 marks k =
     let l = start k .args .l in
     let form = ap (λ (c : Cursor). c .long) (k .before .first-range .ensures) ∙ start k .pre .1 in
-    k .mark .ensures (lengthIn (l .bits)) (sym form)
+    k .mark .ensures .0 (lengthIn (l .bits)) (sym form)
     ∙ ap (λ (rs : List Range). markLost (lengthIn (l .bits)) (ledgerIn l .entries) rs) (met k)
 
 first-range-requires : tie.Need-first-range-requires
@@ -103,7 +104,7 @@ returns-3 c =
     let k = marked h in
     let l = start k .args .l in
     let judged-so = sym (h .may-be-highest .ensures) ∙ not-false _ (f .before .if2 .left) in
-    sym (accept-done (ledgerIn l) (status k) (k .mark .result) (l .count) (marks k) (found h) judged-so (f .free-through .result) (f .free-through .ensures .0) (n .least .result) (n .least .ensures) (n .before .waiting-from .result) (n .before .waiting-from .ensures))
+    sym (accept-done (ledgerIn l) (status k) (k .mark .result) (l .count) (marks k) (found h) judged-so (f .free-through .result) (f .free-through .ensures .0) (n .least .result) (n .least .ensures) (n .before .waiting-from .result) (n .before .waiting-from .ensures) (lowers-then (k .mark .ensures .1) (f .free-through .ensures .2)))
 
 pub apply-spec : {M : Type 1} → statement M
 apply-spec =

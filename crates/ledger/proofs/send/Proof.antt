@@ -2,7 +2,7 @@
 use mathlib.Core.Path.{_≡_, sym, _∙_, ap}
 use mathlib.Core.Bool.{Bool, true, false}
 use mathlib.Core.Logic.{⊎-elim}
-use Prim.Native.Nat.{_+_, _%_, _<_, min}
+use Prim.Native.Nat.{_+_, _%_, _≤_, _<_, min}
 use native.Mathlib.Omega.{arith}
 use borrow.Author.Tests.{leb-true, not-true, not-false}
 use lib.Dec.{leb}
@@ -157,21 +157,27 @@ returns-6 c =
     let n = j .before in
     c .not-sent6 .ensures ∙ sym (send-full (fit (sized n)) (ordered j) (omega (arith, count n, c .before .if7 .taken)))
 
--- a size within its limits loses nothing
+-- the size is the most at most
+not-too-great : (k : tie.After-least) → origin k .args .size ≤ mostSize
+not-too-great k =
+    let z = origin k .args .size in
+    leb-true z mostSize (and-true (leb 1 z) (leb z mostSize) (fit (sized k) .sized) .1)
+
+-- so it loses nothing
 cast-new-entry : tie.Need-cast-new-entry
-cast-new-entry c =
-    let z = origin (c .before .before) .args .size in
-    let limits = and-true (leb 1 z) (leb z mostSize) (fit (sized (c .before .before)) .sized) in
-    record { fits = omega (arith, leb-true z mostSize (limits .1)) }
+cast-new-entry c = record { fits = omega (arith, not-too-great (c .before .before)) }
 
 new-entry-requires : tie.Need-new-entry-requires
 new-entry-requires c κs = search needs
 
-mul-t14 : tie.Need-mul-t14
-mul-t14 c = search needs
+mul-t13 : tie.Need-mul-t13
+mul-t13 c = search needs
 
 element-set-from-after : tie.Need-element-set-from-after
 element-set-from-after c = search needs
+
+raise-requires : tie.Need-raise-requires
+raise-requires c κs = not-too-great (c .before .before .before)
 
 add-after : tie.Need-add-after
 add-after c = search needs
@@ -184,14 +190,15 @@ onward-requires c κs = search needs
 
 returns-7 : tie.Need-returns-7
 returns-7 c =
-    let e = c .before .before in
+    let r = c .before .before in
+    let e = r .before in
     let j = e .before .before in
     let n = j .before in
     let a = origin n .args in
     let free : a .l .count < mostEntries = omega (arith, e .before .if7 .left) in
     let next = c .onward .ensures ∙ ap (λ (long : Bool). (a .l .next + 1) % modulus long) (c .before .is-long .ensures) in
     let more = pushed (a .l .entries) (a .l .count) (slots n) free (e .new-entry .result) (e .new-entry .ensures) in
-    send-done (fit (sized n)) (ordered j) (omega (arith, count n)) (c .onward .result) next _ more
+    send-done (fit (sized n)) (ordered j) (omega (arith, count n)) (c .onward .result) next (r .raise .result) (r .raise .ensures) _ more
 
 pub send-spec : {M : Type 1} → statement M
 send-spec =
@@ -217,8 +224,9 @@ send-spec =
     returns-6
     cast-new-entry
     new-entry-requires
-    mul-t14
+    mul-t13
     element-set-from-after
+    raise-requires
     add-after
     is-long-requires
     onward-requires

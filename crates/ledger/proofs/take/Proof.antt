@@ -1,6 +1,6 @@
 -- `take`: the oldest that may go is the machine's, the entries are left without it, and the oldest that waits is found again. Assumes nothing.
 use mathlib.Core.Path.{_≡_, sym, _∙_, ap}
-use Prim.Native.Nat.{ℕ, _+_, _<_, min}
+use Prim.Native.Nat.{ℕ, _+_, _-_, _<_, min}
 use native.Mathlib.Omega.{arith}
 use lib.ListN.{length, drop, length-map}
 use Rattle.bearer.specs.Bearer.{mostEntries}
@@ -47,12 +47,19 @@ place-without-requires c κs = search needs
 waiting-from-requires : tie.Need-waiting-from-requires
 waiting-from-requires c κs = search needs
 
-cast-t16 : tie.Need-cast-t16
-cast-t16 c = search needs
+waiting-size-requires : tie.Need-waiting-size-requires
+waiting-size-requires c κs = search needs
+
+less-requires : tie.Need-less-requires
+less-requires c κs = search needs
+
+cast-t17 : tie.Need-cast-t17
+cast-t17 c = search needs
 
 returns-2 : tie.Need-returns-2
 returns-2 c =
-    let p = c .before in
+    let z = c .before in
+    let p = z .before .before in
     let w = p .before .before .before in
     let o = w .before .before in
     let k = o .before in
@@ -61,7 +68,7 @@ returns-2 c =
     let inside : i < min (l .count) mostEntries = omega (arith, k .least .ensures, o .if1 .left) in
     let rest = heldIn (w .without .result .entries) (w .without .result .count) in
     let place = p .waiting-from .ensures ∙ ap (λ (from : ℕ). from + waitingAt (drop from rest)) (p .before .place-without .ensures) in
-    take-one (ledgerIn l) i (k .before .to-take .ensures) _ (slot (l .entries) (l .count) (slots k) i inside _) _ (w .without .ensures) _ place
+    take-one (ledgerIn l) i (k .before .to-take .ensures) _ (slot (l .entries) (l .count) (slots k) i inside _) _ (w .without .ensures) _ place _ (z .less .ensures ∙ ap (λ (n : ℕ). l .octets - n) (z .before .waiting-size .ensures))
 
 pub take-spec : {M : Type 1} → statement M
 take-spec =
@@ -75,5 +82,7 @@ take-spec =
     without-requires
     place-without-requires
     waiting-from-requires
-    cast-t16
+    waiting-size-requires
+    less-requires
+    cast-t17
     returns-2)

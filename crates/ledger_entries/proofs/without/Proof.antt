@@ -5,13 +5,13 @@ use native.Mathlib.Omega.{arith}
 use Rattle.bearer.specs.Bearer.{mostEntries}
 use Rattle.ledger_entries.specs.View.{heldIn}
 use Rattle.ledger_entries.proofs.Entries.{Reached, next-stored, passed-all, first-held, held-length}
-use Rattle.ledger_entries.proofs.Passes.{closing, moved, closed-up, nothing-out}
+use Rattle.ledger_entries.proofs.Passes.{keeping, moved, closed-up, nothing-out}
 use borrow.Author.Needs.{needs}
 use Rattle.ledger_entries.proofs.without.Statement.{statement}
 use Rattle.ledger_entries.proofs.without.Tie as tie
 
 abbrev Inv-loop : tie.InvT-loop
-Inv-loop count at n ms₀ i₀ ms i = Reached ms count n i × (0 < i) × (closing (heldIn ms₀ count) i₀ ≡ closing (heldIn ms count) i)
+Inv-loop count at n ms₀ i₀ ms i = Reached ms count n i × (0 < i) × (keeping (heldIn ms₀ count) (i₀ - 1) i₀ ≡ keeping (heldIn ms count) (i - 1) i)
 
 abbrev μ-loop : tie.MeasureT-loop
 μ-loop count at n ms₀ i₀ ms i = n - i
@@ -54,8 +54,10 @@ loop-less c = search needs
 
 loop-again : tie.Need-loop-again Inv-loop μ-loop
 loop-again c =
-    let v = c .before .before .loop .inv in
-    (next-stored (v .0) (omega arith) _ _, omega arith, v .2 ∙ moved (v .0) (omega arith) (v .1) _)
+    let p = c .before .before .loop in
+    let v = p .inv in
+    let kept : p .i + 1 - 1 ≡ p .i - 1 + 1 = omega arith in
+    (next-stored (v .0) (omega arith) _ _, omega arith, rw kept (v .2 ∙ moved (v .0) (omega arith) (p .i - 1) (omega arith) _))
 
 sub-t18 : tie.Need-sub-t18 Inv-loop μ-loop
 sub-t18 c = search needs
@@ -67,7 +69,7 @@ returns-2 c =
     let v = p .inv in
     let less : a .at + 1 - 1 ≡ a .at = omega arith in
     let all : p .i ≡ c .before .before .before .least .result = omega arith in
-    sym ((rw less at (v .2)) ∙ closed-up (heldIn (p .ms) (a .count)) (p .i) (passed-all (v .0) (omega arith)) ∙ rw all (first-held (p .ms) (a .count) (c .before .before .before .least .result - 1) (omega arith)))
+    sym ((rw less at (v .2)) ∙ closed-up (heldIn (p .ms) (a .count)) (p .i - 1) (p .i) (passed-all (v .0) (omega arith)) ∙ rw all (first-held (p .ms) (a .count) (c .before .before .before .least .result - 1) (omega arith)))
 
 pub without-spec : {M : Type 1} → statement M
 without-spec =

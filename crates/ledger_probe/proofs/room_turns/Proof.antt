@@ -3,7 +3,7 @@ use mathlib.Core.Path.{_≡_, refl, _∙_}
 use Prim.Native.Nat.{ℕ, _+_, _-_, _%_, _^_, _≤_, _<_}
 use native.Mathlib.Omega.{arith}
 use Rattle.basics.specs.Basics.{done}
-use Rattle.bearer.specs.Ledger.{Ledger, room}
+use Rattle.bearer.specs.Ledger.{Ledger, keptRoom}
 use Rattle.ledger.specs.View.{ledgerIn, beside}
 use Rattle.ledger_probe.specs.Rig.{total, number, desiring, askRoom}
 use Rattle.ledger_probe.proofs.Turns.{sum-all, total-none, sum-more}
@@ -20,9 +20,9 @@ Inv-loop turns l₀ sum₀ i₀ l sum i =
 abbrev μ-loop : tie.MeasureT-loop
 μ-loop turns l₀ sum₀ i₀ l sum i = turns - i
 
--- room was asked for, and the desired size is greater by 1
-asked : (l : Ledger Unit) (i : ℕ) {r d : ℕ} → r ≡ room l → d ≡ (l .desired + 1) % 2 ^ 32 → beside (done r) (desiring l d) ≡ askRoom i l
-asked l i a b = rw (a, b)
+-- room was asked for, and the desired size is greater by 1 or 2
+asked : (l : Ledger Unit) (i : ℕ) {r d : ℕ} → r ≡ keptRoom l → d ≡ (l .desired + (1 + r % 2)) % 2 ^ 32 → beside (done r) (desiring l d) ≡ askRoom i l
+asked l i a b = rw (b, a)
 
 loop-holds : tie.Need-loop-holds Inv-loop μ-loop
 loop-holds c = (omega arith, omega arith, sum-all askRoom (c .args .turns) refl number)
@@ -32,6 +32,9 @@ room-requires c κs = search needs
 
 wrapping-add-u32-requires : tie.Need-wrapping-add-u32-requires Inv-loop μ-loop
 wrapping-add-u32-requires c κs = search needs
+
+add-wrapping-add-u32 : tie.Need-add-wrapping-add-u32 Inv-loop μ-loop
+add-wrapping-add-u32 c = search needs
 
 wrapping-add-u32-requires-2 : tie.Need-wrapping-add-u32-requires-2 Inv-loop μ-loop
 wrapping-add-u32-requires-2 c κs = search needs
@@ -68,6 +71,7 @@ room-turns-spec =
     loop-holds
     room-requires
     wrapping-add-u32-requires
+    add-wrapping-add-u32
     wrapping-add-u32-requires-2
     add-i
     loop-less

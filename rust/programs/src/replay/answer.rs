@@ -92,7 +92,7 @@ pub fn keeper(keeper: &Keeper, out: &mut impl Write) -> io::Result<()> {
     })
 }
 
-/// The master as it stands.
+/// The master as it stands, and how many octets wait there.
 pub fn ledger(ledger: &Ledger, out: &mut impl Write) -> io::Result<()> {
     out.write_all(b"ledger")?;
     out.fields(&[
@@ -102,6 +102,7 @@ pub fn ledger(ledger: &Ledger, out: &mut impl Write) -> io::Result<()> {
         u32::from(ledger.is_closed()),
         ledger.desired(),
         ledger.minimum(),
+        ledger.waiting_octets(),
     ])?;
     out.write_all(b"\t")?;
     out.joined(ledger.entries(), |out, entry| {

@@ -3,6 +3,7 @@
 use model::Opening;
 use model::demand::Tally;
 use property::bearer::{Bearer, Step, openings, openings_of, steps};
+use property::replay::Answered;
 use property::scripts::{Aim, Script};
 use property::suite::{Suite, Verdict};
 use property::trace::Trace;
@@ -12,6 +13,7 @@ use proptest::prelude::*;
 use soak::options::Options;
 use soak::order::Sends;
 use soak::sizes::Sizes;
+use soak::sums::Sums;
 use soak::table::Table;
 use std::cell::{Cell, RefCell};
 use std::path::{Path, PathBuf};
@@ -193,10 +195,10 @@ fn keepers(suite: &mut Suite, least: u64) {
 /// Both ends through two makes of `replay`; `long` scripts too, in which the
 /// numbers turn.
 fn replays(suite: &mut Suite, name: &str, programs: [&Path; 2], least: u64, long: bool) {
-    let mut table = Table::default();
+    let mut answered = Answered::default();
     let lines = Cell::new(0_u64);
     let mut alike = |script: &Script| {
-        replay::alike(programs, script, &mut table)?;
+        replay::alike(programs, script, &mut answered)?;
         lines.set(lines.get() + script.0.len() as u64);
         Ok(())
     };
@@ -223,7 +225,18 @@ fn replays(suite: &mut Suite, name: &str, programs: [&Path; 2], least: u64, long
     );
     println!("{name}: calls compared: {}", lines.get());
     suite.check(&titled("enough calls"), lines.get() >= least);
-    suite.covers(name, &table, &codec::all_numbers());
+    looked_at(suite, name, answered.sums);
+    suite.covers(name, &answered.table, &codec::all_numbers());
+}
+
+/// The sum of what waits has to be looked at behind all that moves it, and behind
+/// what must not.
+fn looked_at(suite: &mut Suite, name: &str, sums: Sums) {
+    println!("{name}, looks at the sum of what waits: {sums}");
+    suite.check(
+        &format!("{name}: the sum is looked at behind each kind of call"),
+        sums.least() > 0,
+    );
 }
 
 /// Half a circle of packets is sent, and the first comes again: within demand
@@ -248,10 +261,12 @@ fn demand_3(suite: &mut Suite, programs: [&Path; 2], cases: u32) {
     let sum = RefCell::new(Tally::default());
     let calls = Cell::new(0);
     let met = RefCell::new((Sends::default(), Sizes::default()));
+    let sums = RefCell::new(Sums::default());
     let told = |trace: &Trace| {
         let answers = replay::answers_alike(programs, &Script(trace.lines.clone()))?;
         let tally = trace.check(&answers)?;
         calls.set(calls.get() + answers.len());
+        sums.borrow_mut().see_all(&trace.lines, &answers);
         sum.borrow_mut().freed += tally.freed;
         sum.borrow_mut().reported += tally.reported;
         Ok(answers)
@@ -277,6 +292,7 @@ fn demand_3(suite: &mut Suite, programs: [&Path; 2], cases: u32) {
         opposite_copy(*opening, told)
     });
     println!("demand 3: {} calls", calls.get());
+    looked_at(suite, "demand 3", sums.into_inner());
     met_on_traces(suite, sum.into_inner(), met.into_inner());
 }
 

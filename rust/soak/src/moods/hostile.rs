@@ -18,8 +18,12 @@ pub(super) fn frames(script: &mut Script) {
         if script.rng.chance(30) {
             script.room();
         }
+        if script.rng.chance(50) {
+            script.ledger();
+        }
         if script.rng.chance(20) {
             script.take();
+            script.ledger();
         }
     }
 }
@@ -313,12 +317,21 @@ pub(super) fn closing(script: &mut Script) {
     closed(script);
     let held = script.ends.ledger.entries().count();
     for _ in 0..script.rng.place(held + 4) {
-        script.take();
-        if script.rng.chance(30) {
-            script.room();
+        if script.rng.chance(50) {
+            watched_take(script);
+        } else {
+            script.take();
         }
     }
     script.show();
+}
+
+/// A take, with the master shown before and after it, and the room.
+fn watched_take(script: &mut Script) {
+    script.ledger();
+    script.take();
+    script.ledger();
+    script.room();
 }
 
 /// Calls that a closed end refuses.

@@ -71,11 +71,15 @@ pub fn rested(rng: Rng) -> Script {
 }
 
 /// A script of PDUs at the limits of their size and around the room, on one
-/// bearer to its end.
+/// bearer to its end; one in four begins with as much waiting as ever can.
 #[must_use]
 pub fn sized(rng: Rng) -> Script {
     let mut script = Script::new(rng);
-    stress::ledger(&mut script);
+    if script.rng.once_in(4) {
+        stress::largest(&mut script);
+    } else {
+        stress::ledger(&mut script);
+    }
     for _ in 0..6 {
         stress::sizes(&mut script);
         script.show();

@@ -5,6 +5,7 @@ use super::hostile;
 use crate::script::Script;
 use x2u::Form;
 use x2u::frame::MOST_RANGES;
+use x2u::ledger::MOST_ENTRIES;
 
 /// Every second number arrives, until no more runs can be listed; then
 /// statuses, in buffers long enough and not.
@@ -145,6 +146,14 @@ pub(super) fn ledger(script: &mut Script) {
     edges(script);
 }
 
+/// The largest PDUs, one more than the ledger holds: as much waits as ever can.
+pub(super) fn largest(script: &mut Script) {
+    for _ in 0..=MOST_ENTRIES {
+        script.send_next_largest();
+    }
+    script.ledger();
+}
+
 /// Sends at the limits of the PDCP order and of sizes, and anywhere.
 fn edges(script: &mut Script) {
     for _ in 0..script.rng.within(0..12) {
@@ -182,7 +191,7 @@ pub(super) fn rests(script: &mut Script) {
 }
 
 /// PDUs at the limits of their size and around the room, which is asked for
-/// after nearly every call.
+/// after nearly every call, and the sum of what waits after each few.
 pub(super) fn sizes(script: &mut Script) {
     hostile::losses(script, false);
     for _ in 0..script.rng.within(5..40) {
@@ -194,6 +203,7 @@ pub(super) fn sizes(script: &mut Script) {
             7 => hostile::frame(script),
             _ => script.take(),
         }
+        script.ledger();
         script.room();
     }
 }

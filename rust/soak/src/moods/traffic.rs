@@ -86,11 +86,17 @@ fn round(script: &mut Script, road: &Road) {
     }
     if script.rng.chance(road.delivered) {
         script.deliver();
+        if script.rng.chance(20) {
+            script.ledger();
+        }
         script.room();
     }
     if script.rng.chance(road.taken) {
         for _ in 0..script.rng.within(1..30) {
             script.take();
+        }
+        if script.rng.chance(20) {
+            script.ledger();
         }
     }
 }
