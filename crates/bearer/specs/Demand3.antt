@@ -43,7 +43,7 @@ abbrev pub Allowed : ℕ → World → Event → Type 0
 Allowed L w (send p z) = Unit
 Allowed L w (copy i) = (i < length (w .sent)) × (length (w .sent) ≤ i + half L)
 Allowed L w (stray n p) = isDone (K.arrive (w .keeper) n p .answer) ≡ false
-Allowed L w expire = Unit
+Allowed L w (expire n) = Unit
 Allowed L w (confirm n) = Unit
 Allowed L w (status d m final buffer) = (d < 2 ^ 32) × (m < 2 ^ 32)
 Allowed L w deliver = Unit

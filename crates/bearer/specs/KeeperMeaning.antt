@@ -14,7 +14,7 @@ use Rattle.frame_layout.specs.Frames.{statusOctets}
 use Rattle.bearer.specs.Losses.{Gap}
 use Rattle.bearer.specs.Keeper.{Keeper, Record, openKeeper, arrive, expire, confirm, status}
 use Rattle.bearer.specs.Rule.{isIn, farBelow, Lowest, arrival, expiry}
-use Rattle.bearer.specs.Packets.{numberOf, forwardFrom, Rising, In, Each}
+use Rattle.bearer.specs.Packets.{numberOf, forwardFrom, markOf, Rising, In, Each}
 use Rattle.bearer.specs.Account.{Held, Account, begun, indexes, runAt, listed, arriving, expiring, confirming, reporting, statusOf}
 
 -- the record of a packet
@@ -44,8 +44,9 @@ pub data Reached (L first f : ℕ) : Keeper → Account → Type 0 where
   -- numbers arrived: those of the packet that the X2-U number names
   arrived : {k : Keeper} {a : Account} (n p c base : ℕ) → Reached L first f k a → Lowest (a .fates) base → arrive k n p .answer ≡ done c
       → Reached L first f (arrive k n p .state) (arriving a (packetAt L first base n) p)
-  -- gaps expired
-  expired : {k : Keeper} {a : Account} (c : ℕ) → Reached L first f k a → expire k .answer ≡ done c → Reached L first f (expire k .state) (expiring a)
+  -- gaps expired: those before the packet that the mark names
+  expired : {k : Keeper} {a : Account} (n c : ℕ) → Reached L first f k a → expire k n .answer ≡ done c
+      → Reached L first f (expire k n .state) (expiring a (markOf L first n (a .fates)))
   -- a number was confirmed: that of a packet with a record
   confirmed : {k : Keeper} {a : Account} (n i : ℕ) → Reached L first f k a → In i (indexes (a .records)) → numberOf L first i ≡ n
       → confirm k n .answer ≡ done tt → Reached L first f (confirm k n .state) (confirming a i)
@@ -97,8 +98,8 @@ ArrivalsCount =
 -- and so does an accepted expiry
 abbrev pub ExpiriesCount : Type 0
 ExpiriesCount =
-    (L first f : ℕ) (k : Keeper) (a : Account) → Reached L first f k a → (c : ℕ) → expire k .answer ≡ done c
-    → length (expiry (a .fates) .lost) ≡ length (a .fates .lost) + c
+    (L first f : ℕ) (k : Keeper) (a : Account) → Reached L first f k a → (n c : ℕ) → expire k n .answer ≡ done c
+    → length (expiry (a .fates) (markOf L first n (a .fates)) .lost) ≡ length (a .fates .lost) + c
 
 -- an accepted status answers its frame's length, and leaves the frame that says what the account says at the front of the buffer, whose other
 -- octets stay
