@@ -15,7 +15,7 @@ use Rattle.circle.specs.Circle.{forward}
 use Rattle.circle.specs.Sides.{Side, same, ahead, behind, opposite, lies, Told, side-told, told-one}
 use Rattle.circle.specs.Lengths.{modulusOf, half, isLong}
 use Rattle.circle.proofs.Forms.{modulus-bounds, halves}
-use Rattle.bearer.specs.Losses.{isBefore, before, isAhead, aheadOf, fromOn, farBehind, farPast}
+use Rattle.bearer.specs.Losses.{isBefore, before, isAhead, aheadOf, fromOn, farBehind}
 
 -- ---- the two circles
 
@@ -147,11 +147,3 @@ module _ (M first : ℕ) (pos : 0 < M) where
         by : (b : Bool) → ltb j i ≡ b → (if b then forward M (on M first j) (on M first i) else 0) ≡ i - j
         by true e = let h : j < i = ltb-true j i e in to-later j i (omega arith) (omega arith)
         by false e = omega (arith, ltb-false j i e)
-
-    -- how far past it
-    pub beyond-is : farPast M (on M first i) (on M first j) ≡ j - i
-    beyond-is = rw before-is (by (ltb j i) refl)
-      where
-        by : (b : Bool) → ltb j i ≡ b → (if b then 0 else forward M (on M first i) (on M first j)) ≡ j - i
-        by true e = omega (arith, ltb-true j i e)
-        by false e = let h : i ≤ j = ltb-false j i e in to-later i j h (omega arith)
