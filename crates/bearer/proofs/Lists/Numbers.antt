@@ -38,6 +38,16 @@ not-before L a n = by (lies (modulusOf L) a n) (side-told (half L) (forward (mod
     by behind t e = absurd (contrary refl e)
     by opposite t e = absurd (contrary refl e)
 
+-- one that does is half the circle or more forward from it
+pub is-before : (L a n : ℕ) → before (modulusOf L) a n ≡ true → half L ≤ forward (modulusOf L) a n
+is-before L a n = by (lies (modulusOf L) a n) (side-told (half L) (forward (modulusOf L) a n))
+  where
+    by : (s : Side) → Told (half L) (forward (modulusOf L) a n) s → isBefore s ≡ true → half L ≤ forward (modulusOf L) a n
+    by same t e = absurd (contrary e refl)
+    by ahead t e = absurd (contrary e refl)
+    by behind t e = omega arith
+    by opposite t e = omega arith
+
 -- how packet j lies to packet i, from h before it up to, and without, h past it
 abbrev pub sideI : ℕ → ℕ → ℕ → Side
 sideI h i j = if ltb j i then (if eqb (j + h) i then opposite else behind) else if eqb i j then same else ahead
