@@ -12,7 +12,7 @@ use borrow.Author.Tests.{ltb-true, ltb-false, eqb-true, eqb-false, not-true, not
 use lib.Dec.{ltb, eqb}
 use Rattle.basics.specs.Basics.{if_then_else_}
 use Rattle.basics.proofs.Choices.{tested, contrary, chosen, otherwise, order}
-use Rattle.circle.specs.Sides.{Side, same, ahead, behind, opposite, lies}
+use Rattle.circle.specs.Sides.{Side, lies}
 use Rattle.circle.specs.Lengths.{modulusOf, half}
 use Rattle.bearer.specs.Bearer.{refusing}
 use Rattle.bearer.specs.Losses.{isBefore, isBeyond}
