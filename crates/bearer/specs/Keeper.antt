@@ -15,7 +15,7 @@ use Rattle.basics.specs.Basics.{if_then_else_, _and_, _or_, Outcome, done, refu
 use Rattle.frame_layout.specs.Frames.{Range, Status, Written, mostRanges, startsOf, writeStatus}
 use Rattle.bearer.specs.Bearer.{window, mostRuns, mostRecords, After, refusing, answering}
 use Rattle.circle.specs.Lengths.{isLength, isLong, modulusOf, half, pdcps, pdcpBefore}
-use Rattle.bearer.specs.Losses.{before, floorBehind, placeIn, bearsBefore, isBeyond, offsets, aboveBase, Gap, lostBelow, sizeOf, lowest, raisedBase, newRuns, withRuns, goesBefore}
+use Rattle.bearer.specs.Losses.{before, aheadOf, floorBehind, placeIn, bearsBefore, isBeyond, offsets, aboveBase, Gap, lostBelow, sizeOf, lowest, raisedBase, newRuns, withRuns, goesBefore}
 
 -- a packet that arrived: its two numbers, and whether the handset has it
 pub record Record : Type 0 where
@@ -189,33 +189,28 @@ arrive k n p =
 
 -- ---- expiry
 
--- by how far the mark is forward from base: 17, 14, or how many became lost
+-- the mark is beyond the highest accepted: it doesn't lie before base, and is beyond the last record, which counts only at or past base
+abbrev pub markBeyond : Keeper → ℕ → Bool
+markBeyond k n = not (before (modulusOf (k .bits)) (k .base) n) and isBeyond (modulusOf (k .bits)) (k .base) (held k) n
+
+-- no open number precedes the mark: it doesn't lie ahead of base, which is the lowest one
+abbrev pub nonePrecedes : Keeper → ℕ → Bool
+nonePrecedes k n = not (aheadOf (modulusOf (k .bits)) (k .base) n)
+
+-- what is open below the distance d expires: 14, or how many became lost
 abbrev pub expireBelow : Keeper → ℕ → After Keeper ℕ
 expireBelow k d =
-    if eqb d 0 then refusing 17 k else
     if ltb mostRuns (length (runsAfter k d)) then refusing 14 k else
     answering (sizeOf (givenUp k d)) (k with-base baseAfter k d with-runs runsAfter k d)
 
--- a mark that doesn't lie before base: 19 beyond the highest accepted, which is that of the last record and counts only at or past base; then by
--- its distance
-abbrev pub expireOn : Keeper → ℕ → After Keeper ℕ
-expireOn k n =
-    if isBeyond (modulusOf (k .bits)) (k .base) (held k) n then refusing 19 k else
-    expireBelow k (forward (modulusOf (k .bits)) (k .base) n)
-
--- by how the mark lies to base: 17 before it, or as it goes on
-abbrev pub expireBy : Keeper → ℕ → Side → After Keeper ℕ
-expireBy k n opposite = refusing 17 k
-expireBy k n behind = refusing 17 k
-expireBy k n same = expireOn k n
-expireBy k n ahead = expireOn k n
-
--- expiry of what is open before a mark: 9, 10, and then by how the mark lies to base
+-- expiry of what is open before a mark: 9, 10, 19, 17, and then below its distance
 abbrev pub expire : Keeper → ℕ → After Keeper ℕ
 expire k n =
     if k .closed then refusing 9 k else
-    if not (ltb n (modulusOf (k .bits))) then refusing 10 k else
-    expireBy k n (lies (modulusOf (k .bits)) (k .base) n)
+    if leb (modulusOf (k .bits)) n then refusing 10 k else
+    if markBeyond k n then refusing 19 k else
+    if nonePrecedes k n then refusing 17 k else
+    expireBelow k (forward (modulusOf (k .bits)) (k .base) n)
 
 -- ---- confirm
 

@@ -6,7 +6,7 @@ use mathlib.Core.Bool.{Bool, true, false, not}
 use Prim.Native.Nat.{ℕ, _+_, _-_, _/_, _%_, _≤_, _<_}
 use native.Mathlib.Omega.{arith}
 use native.Mathlib.Nat.{add-assoc, add-zero, mod-add-mod, mod-eq-of-lt}
-use borrow.Author.Tests.{ltb-true, ltb-false, leb-true, leb-false, eqb-true, eqb-false, lt-ltb, le-ltb, le-leb, lt-leb}
+use borrow.Author.Tests.{ltb-true, ltb-false, leb-true, leb-false, eqb-true, eqb-false, eq-eqb, ne-eqb, lt-ltb, le-ltb, le-leb, lt-leb}
 use lib.Dec.{ltb, leb, eqb}
 use Rattle.basics.specs.Basics.{if_then_else_}
 use Rattle.basics.proofs.Choices.{contrary, eqb-alike}
@@ -47,6 +47,26 @@ is-before L a n = by (lies (modulusOf L) a n) (side-told (half L) (forward (modu
     by ahead t e = absurd (contrary e refl)
     by behind t e = omega arith
     by opposite t e = omega arith
+
+-- one ahead of another doesn't lie before it, nor is it the same
+pub ahead-past : (L a n : ℕ) → before (modulusOf L) a n ≡ false → not (aheadOf (modulusOf L) a n) ≡ eqb (forward (modulusOf L) a n) 0
+ahead-past L a n = by (lies (modulusOf L) a n) (side-told (half L) (forward (modulusOf L) a n))
+  where
+    by : (s : Side) → Told (half L) (forward (modulusOf L) a n) s → isBefore s ≡ false → not (isAhead s) ≡ eqb (forward (modulusOf L) a n) 0
+    by same t e = sym (eq-eqb (forward (modulusOf L) a n) 0 t)
+    by ahead t e = sym (ne-eqb (forward (modulusOf L) a n) 0 (λ z. omega (arith, t .0)))
+    by behind t e = absurd (contrary refl e)
+    by opposite t e = absurd (contrary refl e)
+
+-- and one that lies before it isn't
+pub never-ahead : (M a n : ℕ) → before M a n ≡ true → not (aheadOf M a n) ≡ true
+never-ahead M a n = by (lies M a n)
+  where
+    by : (s : Side) → isBefore s ≡ true → not (isAhead s) ≡ true
+    by same e = refl
+    by ahead e = absurd (contrary e refl)
+    by behind e = refl
+    by opposite e = refl
 
 -- how packet j lies to packet i, from h before it up to, and without, h past it
 abbrev pub sideI : ℕ → ℕ → ℕ → Side

@@ -7,11 +7,11 @@ use mathlib.Core.Logic.{⊎-elim}
 use Prim.Native.Nat.{ℕ, _+_, _-_, _≤_, _<_}
 use native.Mathlib.Omega.{arith}
 use native.Mathlib.Nat.{mod-lt}
-use borrow.Author.Tests.{leb-false, lt-ltb, le-ltb, ne-eqb}
+use borrow.Author.Tests.{leb-false, lt-ltb, le-ltb}
 use lib.Dec.{ltb, leb, eqb}
 use lib.ListN.{length, length-map}
 use Rattle.basics.specs.Basics.{if_then_else_, done}
-use Rattle.basics.proofs.Choices.{tested, contrary, otherwise, chosen, choice, never-done}
+use Rattle.basics.proofs.Choices.{tested, contrary, chosen, choice, never-done}
 use Rattle.basics.proofs.Lists.{map-inserted}
 use Rattle.circle.specs.Circle.{forward}
 use Rattle.circle.specs.Sides.{Side, same, ahead, behind, opposite, lies}
@@ -52,20 +52,6 @@ went-on k n p c opposite e = never-done 18 c e
 -- what is refused of a packet before base: opposite, if it is half the circle behind it, or late
 abbrev pub refusedBefore : ℕ → ℕ → ℕ → ℕ
 refusedBefore h base i = if eqb (i + h) base then 18 else 11
-
--- ---- an expiry, by how its mark lies to base
-
-pub mark-on : (k : K.Keeper) (n : ℕ) (s : Side) → isBefore s ≡ false → K.expireBy k n s ≡ K.expireOn k n
-mark-on k n same e = refl
-mark-on k n ahead e = refl
-mark-on k n behind e = absurd (contrary refl e)
-mark-on k n opposite e = absurd (contrary refl e)
-
-pub mark-behind : (k : K.Keeper) (n : ℕ) (s : Side) → isBefore s ≡ true → K.expireBy k n s ≡ refusing 17 k
-mark-behind k n same e = absurd (contrary e refl)
-mark-behind k n ahead e = absurd (contrary e refl)
-mark-behind k n behind e = refl
-mark-behind k n opposite e = refl
 
 module _ (L first : ℕ) (a : Indexed) where
   -- an open end, and numbers that are numbers: neither 9 nor 10
@@ -154,10 +140,9 @@ module _ (L first : ℕ) (a : Indexed) (reach : InReach L a) where
       (before-is (modulusOf L) first (positive L) (whole L) (a .base) (a .base + d) (omega arith) (omega arith) ∙ le-ltb (a .base + d) (a .base) (omega arith))
       ∙ image-arrive-on d pdcp h
 
-  -- an expiry with the mark d past base, less than half the circle on
-  pub image-expire-below : (d : ℕ) → d < half L → (d ≡ 0 → ⊥) → K.expireBelow (image L first a) d ≡ imageAfter L first (expireI a d)
-  image-expire-below d h some =
-      otherwise _ _ (ne-eqb d 0 some)
-      ∙ choice (imageAfter L first) (many-runs-are L first a reach d (omega arith)) refl
+  -- an expiry of what is open below a distance, at most half the circle on
+  pub image-expire-below : (d : ℕ) → d ≤ half L → K.expireBelow (image L first a) d ≡ imageAfter L first (expireI a d)
+  image-expire-below d h =
+      choice (imageAfter L first) (many-runs-are L first a reach d h) refl
       (λ i. answering (sizeOf (given-up-is L first a reach d i))
-      (image L first a with-base base-after-is L first a reach d i with-runs runs-after-are L first a reach d (omega arith) i))
+      (image L first a with-base base-after-is L first a reach d i with-runs runs-after-are L first a reach d h i))

@@ -8,23 +8,22 @@ use mathlib.Core.Logic.{_⊎_, inl, inr, ⊎-elim}
 use Prim.Native.Nat.{ℕ, zero, suc, _+_, _-_, _≤_, _<_}
 use native.Mathlib.Omega.{arith}
 use native.Mathlib.Nat.{mod-lt}
-use borrow.Author.Tests.{ltb-true, ltb-false, eqb-true, eqb-false, not-true, not-false}
-use lib.Dec.{ltb, eqb}
-use Rattle.basics.specs.Basics.{if_then_else_}
+use borrow.Author.Tests.{leb-true, leb-false, eqb-true, eqb-false}
+use lib.Dec.{leb, eqb}
+use Rattle.basics.specs.Basics.{if_then_else_, _and_}
 use Rattle.basics.proofs.Choices.{tested, contrary, chosen, otherwise, order}
-use Rattle.circle.specs.Sides.{Side, lies}
 use Rattle.circle.specs.Lengths.{modulusOf, half}
-use Rattle.bearer.specs.Bearer.{refusing}
-use Rattle.bearer.specs.Losses.{isBefore, isBeyond}
+use Rattle.bearer.specs.Bearer.{After, refusing}
+use Rattle.bearer.specs.Losses.{before, isBeyond}
 use Rattle.bearer.specs.Keeper as K
 use Rattle.bearer.specs.Rule.{Fates, highest}
 use Rattle.bearer.specs.Packets.{numberOf, forwardFrom, latestThrough, markOf, In}
 use Rattle.bearer.specs.Account.{indexes}
 use Rattle.bearer.proofs.Lists.Elements.{in-head, in-tail, in-cons}
-use Rattle.bearer.proofs.Lists.Numbers.{whole, positive, is-before, not-before, lands, to-later, same-packet}
+use Rattle.bearer.proofs.Lists.Numbers.{whole, positive, is-before, not-before, ahead-past, never-ahead, lands, to-later, same-packet}
 use Rattle.bearer.proofs.Secondary.Index.{Indexed, image, imageAfter, beyondI, expireI}
 use Rattle.bearer.proofs.Secondary.ImageState.{beyond-is}
-use Rattle.bearer.proofs.Secondary.Image.{mark-on, mark-behind, image-expire-below}
+use Rattle.bearer.proofs.Secondary.Image.{image-expire-below}
 use Rattle.bearer.proofs.Secondary.Follows.{mark-base, Follows, record-received}
 use Rattle.bearer.proofs.Secondary.FollowsExpiry.{Within, not-beyond, is-beyond}
 use Rattle.bearer.proofs.Secondary.FollowsMeans.{follows-reach}
@@ -117,50 +116,65 @@ module _ (L first : ℕ) {a : Indexed} {r : Fates} {told : ℕ} (F : Follows (ha
     goes : (d : ℕ) → (d ≡ 0 → ⊥) → Within (a .base) (indexes (a .records)) (a .base + d) → markOf L first n r ≡ a .base + d
         → K.expire (image L first a) n ≡ imageAfter L first (expireI a d) → Expires n
 
-  module _ (n : ℕ) (small : n < modulusOf L) where
-    abbrev d : ℕ
+  -- the tests of 19 and 17, of a number that doesn't lie before base, less than half the circle on
+  module _ (n : ℕ) (small : n < modulusOf L) (on : before (modulusOf L) (numberOf L first (a .base)) n ≡ false) where
+    abbrev pub d : ℕ
     d = forwardFrom L first (a .base) n
 
-    bears : numberOf L first (a .base + d) ≡ n
+    near : d < half L
+    near = not-before L (numberOf L first (a .base)) n on
+
+    -- the packet d past base bears it
+    pub bears : numberOf L first (a .base + d) ≡ n
     bears = lands (modulusOf L) first (positive L) (a .base) n small
 
-    -- the machine's test of 19
-    pub beyond-by : d < half L → isBeyond (modulusOf L) (numberOf L first (a .base)) (K.held (image L first a)) n ≡ beyondI (a .base) (indexes (a .records)) (a .base + d)
-    beyond-by near =
-        ap (isBeyond (modulusOf L) (numberOf L first (a .base)) (K.held (image L first a))) (sym bears) ∙ beyond-is L first a (follows-reach F) d near
+    pub beyond-test : K.markBeyond (image L first a) n ≡ beyondI (a .base) (indexes (a .records)) (a .base + d)
+    beyond-test =
+        let is : ℕ → Bool = isBeyond (modulusOf L) (numberOf L first (a .base)) (K.held (image L first a)) in
+        ap (λ (t : Bool). not t and is n) on ∙ ap is (sym bears) ∙ beyond-is L first a (follows-reach F) d near
 
-    -- by how far the mark is past base
-    by-distance : K.expire (image L first a) n ≡ K.expireBelow (image L first a) d → d < half L → Within (a .base) (indexes (a .records)) (a .base + d) → Expires n
-    by-distance is near w =
-        let named = mark-is n d bears w in
-        ⊎-elim
-        (λ e. refuses 17 (is ∙ chosen _ _ e) (omega (arith, named, eqb-true d 0 e)))
-        (λ e. let some = eqb-false d 0 e in goes d some w named (is ∙ image-expire-below L first a (follows-reach F) d near some))
-        (tested (eqb d 0))
+    pub none-test : K.nonePrecedes (image L first a) n ≡ eqb d 0
+    none-test = ahead-past L (numberOf L first (a .base)) n on
 
-    -- by whether it is beyond the last record
-    by-last : K.expire (image L first a) n ≡ K.expireOn (image L first a) n → d < half L → Expires n
-    by-last is near =
-        let i : ℕ = a .base + d in
-        ⊎-elim
-        (λ e. refuses 19 (is ∙ chosen _ _ (beyond-by near ∙ e)) (mark-beyond n e))
-        (λ e. by-distance (is ∙ otherwise _ _ (beyond-by near ∙ e)) near (not-beyond (a .base) (indexes (a .records)) i e))
-        (tested (beyondI (a .base) (indexes (a .records)) i))
-
-    -- by how it lies to base
-    by-side : K.expire (image L first a) n ≡ K.expireBy (image L first a) n (lies (modulusOf L) (numberOf L first (a .base)) n) → Expires n
-    by-side is =
-        let k : K.Keeper = image L first a in
-        let b : ℕ = numberOf L first (a .base) in
-        let s : Side = lies (modulusOf L) b n in
-        ⊎-elim
-        (λ e. refuses 17 (is ∙ mark-behind k n s e) (mark-before n (is-before L b n e)))
-        (λ e. by-last (is ∙ mark-on k n s e) (not-before L b n e))
-        (tested (isBefore s))
+  -- of one that does, 19 isn't given and 17 is
+  pub never-beyond : (n : ℕ) → before (modulusOf L) (numberOf L first (a .base)) n ≡ true → K.markBeyond (image L first a) n ≡ false
+  never-beyond n e = ap (λ (t : Bool). not t and isBeyond (modulusOf L) (numberOf L first (a .base)) (K.held (image L first a)) n) e
 
   pub expire-cases : a .closed ≡ false → (n : ℕ) → Expires n
   expire-cases o n =
       ⊎-elim
-      (λ e. refuses 10 (otherwise _ _ o ∙ chosen _ _ e) (mark-no-number n (ltb-false n (modulusOf L) (not-true _ e))))
-      (λ e. by-side n (ltb-true n (modulusOf L) (not-false _ e)) (otherwise _ _ o ∙ otherwise _ _ e))
-      (tested (not (ltb n (modulusOf L))))
+      (λ e. refuses 10 (otherwise _ _ o ∙ chosen _ _ e) (mark-no-number n (leb-true (modulusOf L) n e)))
+      (λ e. numbered (leb-false (modulusOf L) n e) (otherwise _ _ o ∙ otherwise _ _ e))
+      (tested (leb (modulusOf L) n))
+    where
+      k : K.Keeper
+      k = image L first a
+
+      b : ℕ
+      b = numberOf L first (a .base)
+
+      d : ℕ
+      d = forwardFrom L first (a .base) n
+
+      -- from 17 on
+      past19 : After K.Keeper ℕ
+      past19 = if K.nonePrecedes k n then refusing 17 k else K.expireBelow k d
+
+      -- by how far it is past base
+      distant : n < modulusOf L → before (modulusOf L) b n ≡ false → K.expire k n ≡ past19 → Within (a .base) (indexes (a .records)) (a .base + d) → Expires n
+      distant small on is w =
+          let named = mark-is n d (bears n small on) w in
+          ⊎-elim
+          (λ e. refuses 17 (is ∙ chosen _ _ (none-test n small on ∙ e)) (omega (arith, named, eqb-true d 0 e)))
+          (λ e. goes d (eqb-false d 0 e) w named (is ∙ otherwise _ _ (none-test n small on ∙ e) ∙ image-expire-below L first a (follows-reach F) d (omega (arith, not-before L b n on))))
+          (tested (eqb d 0))
+
+      numbered : n < modulusOf L → K.expire k n ≡ (if K.markBeyond k n then refusing 19 k else past19) → Expires n
+      numbered small is =
+          ⊎-elim
+          (λ e. refuses 17 (is ∙ otherwise _ _ (never-beyond n e) ∙ chosen _ _ (never-ahead (modulusOf L) b n e)) (mark-before n (is-before L b n e)))
+          (λ on. ⊎-elim
+          (λ e. refuses 19 (is ∙ chosen _ _ (beyond-test n small on ∙ e)) (mark-beyond n e))
+          (λ e. distant small on (is ∙ otherwise _ _ (beyond-test n small on ∙ e)) (not-beyond (a .base) (indexes (a .records)) (a .base + d) e))
+          (tested (beyondI (a .base) (indexes (a .records)) (a .base + d))))
+          (tested (before (modulusOf L) b n))
