@@ -10,7 +10,7 @@ use Rattle.circle.specs.Lengths.{modulusOf}
 use Rattle.frame_layout.specs.Frames.{Range, endsOf}
 use Rattle.bearer.specs.Bearer.{After, refusing, answering, mostRuns, mostRecords}
 use Rattle.bearer.specs.Losses.{fromBase, lostBelow, sizeOf, newRuns, adjoins, withRuns}
-use Rattle.bearer.specs.Keeper.{Keeper, newRecord, recordsWith, held, runsAfter, arriveOn, arrive, expireOn, expire, _with-base_, _with-runs_, _with-records_}
+use Rattle.bearer.specs.Keeper.{Keeper, newRecord, recordsWith, held, runsAfter, arriveOn, arrive, expireBelow, expire, _with-base_, _with-runs_, _with-records_}
 use Rattle.keeper_judge.specs.declared.Losses.{Losses}
 use Rattle.keeper_judge.specs.declared.Plan.{Plan}
 use Rattle.keeper_judge.specs.declared.Arrival as A
@@ -89,6 +89,6 @@ ExpiryIs (E.the-variants.Accepted plan) k o = AcceptsExpiry plan k o
 abbrev pub JudgesExpiry : E.Expiry → Keeper → ℕ → Type 0
 JudgesExpiry r k n = ExpiryIs r k (expire k n)
 
--- ... that of a mark that doesn't lie before base
+-- ... that of what is open below a distance
 abbrev pub JudgesGaps : E.Expiry → Keeper → ℕ → Type 0
-JudgesGaps r k n = ExpiryIs r k (expireOn k n)
+JudgesGaps r k d = ExpiryIs r k (expireBelow k d)

@@ -4,10 +4,11 @@ ghost use mathlib.Core.Path.{_≡_};
 ghost use mathlib.Core.List.{List};
 ghost use Prim.Native.Nat.{ℕ, _+_, _^_, _≤_, _<_};
 ghost use lib.ListN.{length};
-ghost use Rattle.basics.specs.Basics.{bit};
+ghost use mathlib.Core.Bool.{not};
+ghost use Rattle.basics.specs.Basics.{bit, _and_};
 ghost use Rattle.circle.specs.Lengths.{modulus};
 ghost use Rattle.frame_layout.specs.Frames.{Range, startsOf, endsOf};
-ghost use Rattle.bearer.specs.Losses.{floorBehind, bearsBefore, offsets, raisedBase};
+ghost use Rattle.bearer.specs.Losses.{before, isBeyond, floorBehind, bearsBefore, offsets, raisedBase};
 ghost use Rattle.bearer.specs.Keeper.{Record, numbersOf, limitOf, baseArrived};
 ghost use Rattle.keeper_state.specs.State.{stateOf, stateIn, Fronts};
 ghost use Rattle.keeper_judge.specs.Judgements.{adjoinsLast, noneLost, Losing, Reaches, JudgesArrival, JudgesPlace, JudgesExpiry, JudgesGaps};
@@ -295,7 +296,7 @@ fn base_after(above: &[u32], base: u32, long: bool, limit: u32, top: u32) -> u32
 
 // ---- expiry
 
-// An expiry, by the numbers held and the ends listed: 9, 10, 17 for a mark before base, or by the gaps before it.
+// An expiry, by the numbers held and the ends listed: 9, 10, 19, 17, or by the gaps before the mark.
 fn judge_mark(w: Words, numbers: &[u32], ends: &[u32], mark: u32) -> Expiry
     ensures { λ r. ⌜ ((runs : List Range) (records : List Record) → numbersOf records ≡ now (numbers .entry) → endsOf runs ≡ now (ends .entry)
         → JudgesExpiry r (stateOf w runs records) mark) ⌝ }
@@ -303,34 +304,39 @@ fn judge_mark(w: Words, numbers: &[u32], ends: &[u32], mark: u32) -> Expiry
     if !keeper_state::is_open(w.opened) {
         return Expiry::Refused(refusal::CLOSED);
     }
+    let base = w.base;
     let long = circle::is_long(w.bits);
     if circle::modulus(long) <= mark {
         return Expiry::Refused(refusal::NUMBER);
     }
-    let side = circle::lies(w.base, mark, long);
-    match side {
-        Side::Opposite => return Expiry::Refused(refusal::NO_GAP),
-        Side::Behind => return Expiry::Refused(refusal::NO_GAP),
-        Side::Same => {}
-        Side::Ahead => {}
+    if mark_beyond(numbers, base, long, mark) {
+        return Expiry::Refused(refusal::MARK);
     }
-    judge_gaps(w, numbers, ends, mark)
+    if !keeper_loss::is_ahead(base, mark, long, false) {
+        return Expiry::Refused(refusal::NO_GAP);
+    }
+    let distance = circle::distance(base, mark, long);
+    judge_gaps(w, numbers, ends, distance)
 }
 
-// An expiry whose mark doesn't lie before base, by the gaps before the mark: 19, 17, 14, or what it changes.
-fn judge_gaps(w: Words, numbers: &[u32], ends: &[u32], mark: u32) -> Expiry
+// Whether a mark is beyond the highest accepted: it doesn't lie before base, and is beyond the last of the numbers held.
+fn mark_beyond(numbers: &[u32], base: u32, long: bool, mark: u32) -> bool
+    ensures { λ r. ⌜ r ≡ (not (before (modulus long) base mark) and isBeyond (modulus long) base (now (numbers .entry)) mark) ⌝ }
+{
+    if keeper_loss::is_before(base, mark, long) {
+        return false;
+    }
+    keeper_loss::is_beyond(numbers, base, long, mark)
+}
+
+// An expiry by the gaps below a distance from base: 14, or what it changes.
+fn judge_gaps(w: Words, numbers: &[u32], ends: &[u32], distance: u32) -> Expiry
+    requires { ⌜ 0 < distance ⌝ }
     ensures { λ r. ⌜ ((runs : List Range) (records : List Record) → numbersOf records ≡ now (numbers .entry) → endsOf runs ≡ now (ends .entry)
-        → JudgesGaps r (stateOf w runs records) mark) ⌝ }
+        → JudgesGaps r (stateOf w runs records) distance) ⌝ }
 {
     let base = w.base;
     let long = circle::is_long(w.bits);
-    if keeper_loss::is_beyond(numbers, base, long, mark) {
-        return Expiry::Refused(refusal::MARK);
-    }
-    let distance = circle::distance(base, mark, long);
-    if distance == 0 {
-        return Expiry::Refused(refusal::NO_GAP);
-    }
     let lost = lost_below(numbers, ends, base, long, distance);
     if MOST_RUNS < lost.runs {
         return Expiry::Refused(refusal::RUNS);

@@ -22,7 +22,7 @@ pub struct GivenUp {
 // ---- where a number lies
 
 // Whether a number lies ahead of another, or is the same, where that counts too.
-fn is_ahead(from: u32, number: u32, long: bool, same: bool) -> bool
+pub fn is_ahead(from: u32, number: u32, long: bool, same: bool) -> bool
     ensures { λ r. ⌜ r ≡ aheadOr same («modulusOf» long) from number ⌝ }
 {
     let side = circle::lies(from, number, long);
