@@ -148,6 +148,10 @@ size-octets = 0x00 ∷ 0x01 ∷ 0x00 ∷ 0x00 ∷ 0x00 ∷ 0x00 ∷ 0x10 ∷ 0x0
 abbrev pub over-rollover : List Call → List Call
 over-rollover cs = arrives 65534 4095 (done 0) ∷ arrives 0 1 (done 0) ∷ expires 0 (done 1) ∷ cs
 
+-- a status whose frame carries these runs and repeats the highest 0
+abbrev pub tells : List Range → Call
+tells rs = reports 0 0 false (status-of (telling false 0 0 0 rs))
+
 -- so many runs of one number
 abbrev pub runs : ℕ → List Range
 runs n = map (λ (i : ℕ). 2 * i to 2 * i) (packetsFrom 0 n)
@@ -340,6 +344,20 @@ marked =
     ∷ secondary (K.openKeeper 18 16777214 0) (arrives 1 0 (done 0) ∷ expires 16777216 (refused 10) ∷ expires 8388605 (refused 19) ∷ expires 8388606 (refused 17) ∷ expires 0 (done 2) ∷ []) 0
     -- a record opposite base is before it, and no highest accepted at or past base
     ∷ secondary (done (K.freshKeeper 12 1000 1 with-records (K.newRecord 33768 0 ∷ []))) (expires 1000 (refused 19) ∷ expires 33767 (refused 19) ∷ expires 33768 (refused 17) ∷ []) 1000
+    -- what is listed then: each gap before the mark, joined where they adjoin, also those of two expiries and over the rollover, but not those reported
+    ∷ secondary (K.openKeeper 12 10 1) (arrives 12 0 (done 0) ∷ arrives 14 0 (done 0) ∷ arrives 16 0 (done 0) ∷ arrives 17 0 (done 0) ∷ arrives 19 0 (done 0) ∷ expires 16 (done 4) ∷ tells ((10 to 11) ∷ (13 to 13) ∷ (15 to 15) ∷ []) ∷ []) 18
+    ∷ secondary (K.openKeeper 12 10 1) (arrives 15 0 (done 0) ∷ expires 11 (done 1) ∷ expires 13 (done 2) ∷ arrives 13 0 (done 0) ∷ expires 15 (done 1) ∷ tells ((10 to 12) ∷ (14 to 14) ∷ []) ∷ []) 16
+    ∷ secondary (K.openKeeper 12 65534 1) (arrives 2 0 (done 0) ∷ expires 0 (done 2) ∷ expires 1 (done 1) ∷ tells ((65534 to 0) ∷ []) ∷ []) 1
+    ∷ secondary (K.openKeeper 12 10 1) (arrives 15 0 (done 0) ∷ expires 12 (done 2) ∷ tells ((10 to 11) ∷ []) ∷ expires 14 (done 2) ∷ tells ((12 to 13) ∷ []) ∷ []) 14
+    -- 14 by the runs before the mark, once they are joined
+    ∷ secondary (done (listing 255 with-records (K.newRecord 1001 0 ∷ K.newRecord 1003 0 ∷ []))) (expires 1003 (refused 14) ∷ expires 1001 (done 1) ∷ expires 1003 (refused 14) ∷ []) 1002
+    ∷ secondary (done (K.freshKeeper 12 511 1 with-runs runs 256 with-records (K.newRecord 513 0 ∷ []))) (expires 512 (done 1) ∷ expires 513 (done 1) ∷ []) 514
+    -- with packet 0 alone accepted, 32768 is half the circle less 1 forward from base, and 32769 is half of it
+    ∷ secondary (K.openKeeper 12 0 1) (arrives 0 0 (done 0) ∷ expires 32768 (refused 19) ∷ expires 32769 (refused 17) ∷ []) 1
+    -- a mark kept for a turn: 17, then 19, and then what is open before the packet of a turn later is lost
+    ∷ secondary (K.openKeeper 12 0 1) (arrives 0 0 (done 0) ∷ confirms 0 (done tt) ∷ tells [] ∷ arrives 32767 0 (done 32511) ∷ tells ((1 to 32511) ∷ []) ∷ expires 0 (refused 17) ∷ arrives 65000 0 (done 32232) ∷ expires 0 (refused 19) ∷ tells ((32512 to 32766) ∷ (32768 to 64744) ∷ []) ∷ confirms 32767 (done tt) ∷ tells [] ∷ arrives 5 0 (done 540) ∷ expires 0 (done 250) ∷ []) 0
+    -- the last record counts, not the window: a record 300 past base, which no calls make
+    ∷ secondary (done (K.freshKeeper 12 1000 1 with-records (K.newRecord 1001 0 ∷ K.newRecord 1300 0 ∷ []))) (expires 1001 (done 1) ∷ []) 1002
     ∷ []
 
 -- the PDCP order of sends (request Three)
@@ -466,9 +484,13 @@ secondary-orders =
     ∷ secondary (done (K.freshKeeper 12 1000 1 with-runs ((33768 to 33768) ∷ []) with-records (K.newRecord 1001 0 ∷ []))) (arrives 1001 0 (refused 12) ∷ []) 1000
     ∷ secondary (done (listing 256)) (arrives 32768 0 (refused 13) ∷ []) 1000
     ∷ secondary (done (listing 256 with-records records 512)) (arrives 1256 0 (refused 14) ∷ []) 1000
-    -- expiry: 10 before 17 and 19, 19 before 17 (the mark is base, and nothing from there on is accepted) and before 14, 17 before 14
+    -- expiry: 9 before 17, 14, 19 and what would be accepted; 10 before 19, 17 and 14; 19 before 17 (the mark is base, and nothing from there on is
+    -- accepted) and before 14; 17 before 14
+    ∷ secondary (done (listing 256 with-closed true with-records (K.newRecord 1002 0 ∷ []))) (expires 999 (refused 9) ∷ expires 1000 (refused 9) ∷ expires 1002 (refused 9) ∷ expires 1003 (refused 9) ∷ []) 1000
+    ∷ secondary (done (shut with-records (K.newRecord 1002 0 ∷ []))) (expires 1002 (refused 9) ∷ []) 1000
     ∷ secondary (done (listing 257)) (expires 65536 (refused 10) ∷ expires 66536 (refused 10) ∷ expires 1000 (refused 19) ∷ expires 1001 (refused 19) ∷ expires 999 (refused 17) ∷ []) 1000
     ∷ secondary (done (listing 256 with-records (K.newRecord 1002 0 ∷ []))) (expires 1003 (refused 19) ∷ expires 1000 (refused 17) ∷ expires 1002 (refused 14) ∷ expires 1001 (refused 14) ∷ []) 1000
+    ∷ secondary (done (listing 257 with-records (K.newRecord 1002 0 ∷ []))) (expires 66536 (refused 10) ∷ expires 66537 (refused 10) ∷ expires 66535 (refused 10) ∷ expires 1000 (refused 17) ∷ expires 1001 (refused 14) ∷ []) 1000
     -- confirm: 10 before 16, 16
     ∷ secondary (K.openKeeper 12 0 0) (confirms 65536 (refused 10) ∷ confirms 5 (refused 16) ∷ []) 0
     -- status: 9 before 22, 22 before 20, 20
@@ -517,7 +539,7 @@ circles-hold : AllHold circles
 circles-hold = ((refl, refl), ((refl, (refl, (refl, refl))), ((refl, refl), ((refl, (refl, (refl, refl))), ((refl, (refl, (refl, (refl, (refl, (refl, (refl, refl))))))), ((refl, (refl, (refl, (refl, (refl, refl))))), ((refl, (refl, (refl, (refl, tt)))), ((refl, (refl, (refl, (refl, tt)))), ((refl, refl), ((refl, refl), ((refl, refl), ((refl, refl), tt))))))))))))
 
 marked-hold : AllHold marked
-marked-hold = ((refl, (refl, (refl, (refl, (refl, (refl, (refl, refl))))))), ((refl, (refl, (refl, (refl, refl)))), ((refl, (refl, (refl, (refl, refl)))), ((refl, (refl, (refl, (refl, (refl, (refl, (refl, (refl, refl)))))))), ((refl, (refl, (refl, (refl, (refl, (refl, (refl, (refl, (refl, (refl, refl)))))))))), ((refl, (refl, (refl, (refl, (refl, (refl, refl)))))), ((refl, (refl, (refl, (refl, (refl, refl))))), ((refl, (refl, (refl, refl))), tt))))))))
+marked-hold = ((refl, (refl, (refl, (refl, (refl, (refl, (refl, refl))))))), ((refl, (refl, (refl, (refl, refl)))), ((refl, (refl, (refl, (refl, refl)))), ((refl, (refl, (refl, (refl, (refl, (refl, (refl, (refl, refl)))))))), ((refl, (refl, (refl, (refl, (refl, (refl, (refl, (refl, (refl, (refl, refl)))))))))), ((refl, (refl, (refl, (refl, (refl, (refl, refl)))))), ((refl, (refl, (refl, (refl, (refl, refl))))), ((refl, (refl, (refl, refl))), ((refl, (refl, (refl, (refl, (refl, (refl, (refl, refl))))))), ((refl, (refl, (refl, (refl, (refl, (refl, refl)))))), ((refl, (refl, (refl, (refl, refl)))), ((refl, (refl, (refl, (refl, (refl, refl))))), ((refl, (refl, (refl, refl))), ((refl, (refl, refl)), ((refl, (refl, (refl, refl))), ((refl, (refl, (refl, (refl, (refl, (refl, (refl, (refl, (refl, (refl, (refl, (refl, (refl, refl))))))))))))), ((refl, refl), tt)))))))))))))))))
 
 rested-hold : AllHold rested
 rested-hold = ((refl, (refl, (refl, (refl, (refl, (refl, tt)))))), ((refl, (refl, (refl, (refl, (refl, tt))))), ((refl, (refl, (refl, (refl, tt)))), ((refl, (refl, (refl, (refl, (refl, (refl, tt)))))), ((refl, (refl, (refl, (refl, (refl, (refl, tt)))))), ((refl, (refl, (refl, (refl, tt)))), ((refl, (refl, (refl, (refl, (refl, (refl, (refl, tt))))))), ((refl, (refl, (refl, (refl, (refl, (refl, (refl, tt))))))), ((refl, (refl, (refl, (refl, (refl, tt))))), ((refl, (refl, (refl, (refl, (refl, (refl, (refl, tt))))))), ((refl, (refl, (refl, (refl, (refl, (refl, (refl, tt))))))), tt)))))))))))
@@ -538,7 +560,7 @@ frame-orders-hold : AllHold frame-orders
 frame-orders-hold = (refl, (refl, (refl, (refl, (refl, (refl, (refl, (refl, tt))))))))
 
 secondary-orders-hold : AllHold secondary-orders
-secondary-orders-hold = ((refl, refl), ((refl, refl), ((refl, (refl, (refl, refl))), ((refl, (refl, (refl, (refl, refl)))), ((refl, refl), ((refl, (refl, refl)), ((refl, refl), ((refl, refl), ((refl, refl), ((refl, (refl, (refl, (refl, (refl, refl))))), ((refl, (refl, (refl, (refl, refl)))), ((refl, (refl, refl)), ((refl, refl), ((refl, (refl, refl)), tt))))))))))))))
+secondary-orders-hold = ((refl, refl), ((refl, refl), ((refl, (refl, (refl, refl))), ((refl, (refl, (refl, (refl, refl)))), ((refl, refl), ((refl, (refl, refl)), ((refl, refl), ((refl, refl), ((refl, refl), ((refl, (refl, (refl, (refl, refl)))), ((refl, refl), ((refl, (refl, (refl, (refl, (refl, refl))))), ((refl, (refl, (refl, (refl, refl)))), ((refl, (refl, (refl, (refl, (refl, refl))))), ((refl, (refl, refl)), ((refl, refl), ((refl, (refl, refl)), tt)))))))))))))))))
 
 master-orders-hold : AllHold master-orders
 master-orders-hold = ((refl, (refl, tt)), ((refl, (refl, (refl, (refl, (refl, tt))))), ((refl, tt), (refl, (refl, (refl, (refl, (refl, (refl, (refl, (refl, tt)))))))))))

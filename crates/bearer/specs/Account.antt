@@ -1,6 +1,6 @@
 -- The secondary's rule, whole, in document 01's own sentences, as document 02's requests changed them, on packet indexes that never roll over:
--- what its accepted calls make of the
--- packets' fates (Rule.antt), of the records, of what was reported and of the end itself. Nothing that the machines do is used here.
+-- what its accepted calls make of the packets' fates (Rule.antt), of the records, of what was reported and of the end itself. Nothing that the
+-- machines do is used here.
 -- Assumes nothing.
 use mathlib.Core.Path.{_≡_}
 use mathlib.Core.Bool.{Bool, true, false}

@@ -51,8 +51,8 @@ abbrev pub latestThrough : ℕ → ℕ → ℕ → ℕ → ℕ
 latestThrough L first n zero = 0
 latestThrough L first n (suc i) = if eqb (numberOf L first (suc i)) n then suc i else latestThrough L first n i
 
--- the packet that a mark names, which is "the highest number accepted when the host's gap timer started": the latest that bears it of those
--- through the highest accepted now
+-- the packet that a mark names: of those through the highest accepted, the latest that bears it. So the number of an accepted packet, "the highest
+-- number accepted when the host's gap timer started", names that packet for nearly a turn (`MarksKept` of KeeperMeaning.antt)
 abbrev pub markOf : ℕ → ℕ → ℕ → Fates → ℕ
 markOf L first n r = latestThrough L first n (highest (r .received))
 

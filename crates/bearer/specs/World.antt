@@ -1,6 +1,6 @@
 -- Both ends of a bearer joined over a backhaul: what may happen, and what each event does to both ends and to the account of it that
 -- demand 3 speaks of (Demand3.antt). The two ends are the very machines that the engines' contracts cite (Keeper.antt, Ledger.antt), at
--- document 01's constants; the written rule is Rule.antt.
+-- document 01's constants; the written rule is Rule.antt, and Packets.antt says which packet a mark names.
 -- Assumes nothing.
 use mathlib.Core.Bool.{Bool, false}
 use mathlib.Core.List.{List, [], _∷_, _++_}

@@ -27,7 +27,7 @@ use Rattle.bearer.proofs.Joint.Reporting.{joint-status}
 use Rattle.bearer.proofs.Joint.Confirming.{joint-confirm}
 use Rattle.bearer.proofs.Joint.Copies.{joint-answers}
 use Rattle.bearer.proofs.Joint.Arriving.{joint-copy}
-use Rattle.bearer.proofs.Joint.Expiring.{joint-expire}
+use Rattle.bearer.proofs.Joint.Expiring.{joint-expire, joint-expiries}
 
 -- ---- open
 
@@ -96,6 +96,7 @@ joint-keeps ok j = record {
   accepted = joint-accepts ok j;
   freed-exactly = joint-freed j;
   copies-answered = joint-answers ok j;
+  expiries-answered = joint-expiries ok j;
   final-closes = j .closes;
 }
 

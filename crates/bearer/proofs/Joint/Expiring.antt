@@ -1,25 +1,28 @@
--- Gaps expire at the secondary: both ends stay joined.
+-- Gaps expire at the secondary: both ends stay joined, and what is answered is what our rule declares lost.
 -- Assumes nothing.
 use mathlib.Core.Path.{_≡_, refl, sym, _∙_, ap, subst}
 use mathlib.Core.Bool.{true, false}
 use mathlib.Core.List.{List}
 use mathlib.Core.Logic.{⊎-elim}
-use Prim.Native.Nat.{ℕ, _+_, _≤_, _<_}
+use Prim.Native.Nat.{ℕ, zero, suc, _+_, _-_, _≤_, _<_}
 use native.Mathlib.Omega.{arith}
 use lib.ListN.{length}
+use Rattle.basics.specs.Basics.{Outcome, done}
 use Rattle.basics.proofs.Choices.{tested, contrary, otherwise, chosen}
 use Rattle.circle.specs.Lengths.{isLength}
 use Rattle.bearer.specs.Bearer.{mostRuns, After}
+use Rattle.bearer.specs.Losses.{sizeOf}
 use Rattle.bearer.specs.Keeper as K
 use Rattle.bearer.specs.Rule.{Fates, isOpen, openBelow, expiry}
 use Rattle.bearer.specs.Packets.{markOf, In}
 use Rattle.bearer.specs.World.{World, _with-keeper_, _with-fates_, atSecondary}
+use Rattle.bearer.specs.Demand3.{Expired, ExpiriesAnswered}
 use Rattle.bearer.specs.Account.{indexes}
 use Rattle.bearer.proofs.Lists.Elements.{in-append}
-use Rattle.bearer.proofs.Answers.Accepted.{same-state}
-use Rattle.bearer.proofs.Secondary.Index.{Indexed, image, imageAfter, runsAfterI, expiredI}
+use Rattle.bearer.proofs.Answers.Accepted.{same-answer, same-state}
+use Rattle.bearer.proofs.Secondary.Index.{Indexed, image, imageAfter, givenUpI, runsAfterI, expiredI}
 use Rattle.bearer.proofs.Secondary.Follows.{record-received}
-use Rattle.bearer.proofs.Secondary.FollowsExpiry.{Within, follows-nothing, follows-expire, expires}
+use Rattle.bearer.proofs.Secondary.FollowsExpiry.{Within, follows-nothing, expiry-count, expiry-some, follows-expire, expires}
 use Rattle.bearer.proofs.Secondary.MarkOf.{Expires, refuses, goes, expire-cases}
 use Rattle.bearer.proofs.Joint.Flight.{Onward, divides-onward}
 use Rattle.bearer.proofs.Joint.Joined.{Second, Joint}
@@ -122,3 +125,32 @@ joint-expire {L} {first} {w} ok j n = ⊎-elim shut unshut (tested (w .keeper .c
     unshut o =
         let s = j .second in
         by o (expire-cases L first (s .follows) (ap (λ (x : K.Keeper). x .closed) (sym (s .keeper-is)) ∙ o) n)
+
+-- what an expiry is answered
+pub joint-expiries : {L first : ℕ} {w : World} → isLength L ≡ true → Joint L first w → ExpiriesAnswered L first w
+joint-expiries {L} {first} {w} ok j not-final n = by (expire-cases L first (j .second .follows) (ap (λ (x : K.Keeper). x .closed) (sym (j .second .keeper-is)) ∙ o) n)
+  where
+    o : w .keeper .closed ≡ false
+    o = j .closes .secondary ∙ not-final
+
+    count : ℕ → ℕ
+    count mark = length (expiry (w .fates) mark .lost) - length (w .fates .lost)
+
+    -- the keeper answers what its machine on indexes does
+    answers : {x : After K.Keeper ℕ} → K.expire (image L first (j .second .a)) n ≡ x → K.expire (w .keeper) n .answer ≡ x .answer
+    answers q = ap (λ (k : K.Keeper). K.expire k n .answer) (j .second .keeper-is) ∙ same-answer q
+
+    so-many : (c : ℕ) (x : Outcome ℕ) → 0 < c → x ≡ done c → Expired c x
+    so-many zero x l e = absurd (omega arith)
+    so-many (suc c) x l e = e
+
+    by : Expires L first (j .second .follows) n → Expired (count (markOf L first n (w .fates))) (K.expire (w .keeper) n .answer)
+    by (refuses m is low) =
+        let none : count (markOf L first n (w .fates)) ≡ 0 = ap (λ (r : Fates). length (r .lost) - length (w .fates .lost)) (follows-nothing (j .second .follows) _ low) ∙ omega arith in
+        rw (none, answers is)
+    by (goes d some in-reach named is) =
+        let F = j .second .follows in
+        let a = j .second .a in
+        let is-many : count (markOf L first n (w .fates)) ≡ sizeOf (givenUpI a d) = ap count named ∙ omega (arith, expiry-count F d in-reach) in
+        rw is-many
+        (so-many (sizeOf (givenUpI a d)) (K.expire (w .keeper) n .answer) (expiry-some F d in-reach some) (answers (is ∙ ap (imageAfter L first) (expires a d (few ok j o d in-reach)))))

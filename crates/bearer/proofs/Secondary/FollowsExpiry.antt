@@ -5,18 +5,18 @@ use mathlib.Core.Path.{_≡_, refl, _∙_, ap}
 use mathlib.Core.Bool.{true, false}
 use mathlib.Core.List.{List, [], _∷_, _++_, map, append-nil}
 use mathlib.Core.Logic.{inl, ⊎-elim}
-use Prim.Native.Nat.{ℕ, _+_, _-_, _≤_, _<_}
+use Prim.Native.Nat.{ℕ, suc, _+_, _-_, _≤_, _<_}
 use native.Mathlib.Omega.{arith}
 use borrow.Author.Tests.{ltb-true, ltb-false, le-ltb}
 use lib.Dec.{ltb}
-use lib.ListN.{length, drop}
+use lib.ListN.{length, drop, length-append}
 use Rattle.basics.specs.Basics.{done}
 use Rattle.basics.proofs.Choices.{otherwise, contrary, done-one, or-true, or-false}
 use Rattle.bearer.specs.Bearer.{answering, mostRuns}
 use Rattle.bearer.specs.Losses.{sizeOf}
-use Rattle.bearer.specs.Rule.{Fates, openBelow, expiry}
+use Rattle.bearer.specs.Rule.{Fates, isOpen, only, openBelow, expiry}
 use Rattle.bearer.specs.Packets.{In, Rising}
-use Rattle.bearer.specs.Account.{packetsOf, runsIn, indexes}
+use Rattle.bearer.specs.Account.{packetsFrom, packetsOf, runsIn, indexes}
 use Rattle.bearer.proofs.Lists.Mapped.{each-so}
 use Rattle.bearer.proofs.Lists.Elements.{in-head, in-tail, in-cons, in-one}
 use Rattle.bearer.proofs.Answers.Accepted.{same-state, not-refused}
@@ -88,8 +88,16 @@ module _ {h : ℕ} {a : Indexed} {r : Fates} {told : ℕ} (F : Follows h a r tol
     expiry-lost : expiry r (a .base + d) .lost ≡ r .lost ++ packetsOf (map (gapAt (a .base)) (givenUpI a d))
     expiry-lost = ap (λ (ls : List ℕ). r .lost ++ ls) (declared F expiry-receives expiry-advances)
 
-    expiry-count : length (expiry r (a .base + d) .lost) ≡ length (r .lost) + sizeOf (givenUpI a d)
+    pub expiry-count : length (expiry r (a .base + d) .lost) ≡ length (r .lost) + sizeOf (givenUpI a d)
     expiry-count = rw expiry-lost (lost-count (a .base) (r .lost) (givenUpI a d))
+
+    -- base itself, where the mark is past it
+    pub expiry-some : (d ≡ 0 → ⊥) → 0 < sizeOf (givenUpI a d)
+    expiry-some some =
+        let away : a .base + d - a .base ≡ suc (d - 1) = omega arith in
+        let gone : openBelow r (a .base + d) ≡ a .base ∷ only (isOpen r) (packetsFrom (suc (a .base)) (d - 1)) =
+        open-from r (a .base) (a .base + d) (F .fates .lowest .none-below) ∙ rw (away, F .fates .lowest .open-itself) in
+        omega (arith, expiry-count, length-append (r .lost) (openBelow r (a .base + d)), ap length gone)
 
     -- the runs that would be listed
     pub expiry-listed : runsIn (drop told (expiry r (a .base + d) .lost)) ≡ runsAfterI a d

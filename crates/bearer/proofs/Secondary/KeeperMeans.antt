@@ -4,7 +4,7 @@
 use mathlib.Core.Path.{_≡_, refl, sym, _∙_, ap, subst}
 use mathlib.Core.Bool.{Bool, false, not}
 use mathlib.Core.List.{List, _++_}
-use Prim.Native.Nat.{ℕ, _+_, _<_}
+use Prim.Native.Nat.{ℕ, _+_, _≤_, _<_}
 use borrow.Author.Tests.{ltb-true, not-false}
 use lib.Dec.{ltb}
 use lib.ListN.{length, getD, drop}
@@ -15,10 +15,10 @@ use Rattle.circle.specs.Sides.{lies}
 use Rattle.circle.specs.Lengths.{isLong, modulusOf, half, pdcps, pdcpBefore}
 use Rattle.frame_layout.specs.Frames.{Status, statusOctets}
 use Rattle.bearer.specs.Keeper as K
-use Rattle.bearer.specs.Rule.{arrival, expiry, Lowest}
-use Rattle.bearer.specs.Packets.{numberOf, markOf, In}
+use Rattle.bearer.specs.Rule.{arrival, expiry, highest, Lowest}
+use Rattle.bearer.specs.Packets.{numberOf, forwardFrom, markOf, In}
 use Rattle.bearer.specs.Account.{Held, Account, begun, indexes, arriving, expiring, confirming, reporting, leftOut, statusOf}
-use Rattle.bearer.specs.KeeperMeaning.{packetAt, Reached, opened as opens, arrived, expired, confirmed, reported, Means, KeeperMeans, ArrivalsCount, ExpiriesCount, StatusesSay}
+use Rattle.bearer.specs.KeeperMeaning.{packetAt, Reached, opened as opens, arrived, expired, confirmed, reported, Means, KeeperMeans, ArrivalsCount, ExpiriesCount, MarksLie, StatusesSay}
 use Rattle.bearer.proofs.Lists.Mapped.{each-at}
 use Rattle.bearer.proofs.Lists.Elements.{each-in}
 use Rattle.bearer.proofs.Lists.Numbers.{positive, not-before, lands}
@@ -35,7 +35,7 @@ use Rattle.bearer.proofs.Secondary.FollowsExpiry.{follows-expired}
 use Rattle.bearer.proofs.Secondary.FollowsStatus.{follows-confirm, follows-status}
 use Rattle.bearer.proofs.Secondary.Accounts.{indexedOf, indexed-is, recorded-is, delivered-is, going-is, highest-is}
 use Rattle.bearer.proofs.Secondary.FollowsMeans.{follows-means, follows-reach}
-use Rattle.bearer.proofs.Secondary.MarkOf.{Expires, refuses, goes, expire-cases}
+use Rattle.bearer.proofs.Secondary.MarkOf.{mark-at, mark-before, Expires, refuses, goes, expire-cases}
 
 -- a state as the index machine has it: that of an account whose lowest open packet is base, and which the index machine's follows
 pub record Indexes (L first : ℕ) (k : K.Keeper) (a : Account) : Type 0 where
@@ -195,6 +195,15 @@ arrivals-count L first f k a x n p c base low e =
 
 pub expiries-count : ExpiriesCount
 expiries-count L first f k a x n c e = expiry-step L first n c (indexed L first f x) e .1
+
+pub marks-lie : MarksLie
+marks-lie L first f k a x base n low small =
+    let i = indexed L first f x in
+    subst (λ (b : ℕ). (half L ≤ forwardFrom L first b n → markOf L first n (a .fates) ≤ b)
+    × (forwardFrom L first b n < half L → packetAt L first b n ≤ highest (a .fates .received) → markOf L first n (a .fates) ≡ packetAt L first b n))
+    (base-is i base low)
+    (mark-before L first (i .follows) n,
+    (λ near. mark-at L first (i .follows) n (forwardFrom L first (i .base) n) (lands (modulusOf L) first (positive L) (i .base) n small)))
 
 pub statuses-say : StatusesSay
 statuses-say L first f k a x d m final buffer c e =

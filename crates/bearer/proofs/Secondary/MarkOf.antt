@@ -19,6 +19,7 @@ use Rattle.bearer.specs.Keeper as K
 use Rattle.bearer.specs.Rule.{Fates, highest}
 use Rattle.bearer.specs.Packets.{numberOf, forwardFrom, latestThrough, markOf, In}
 use Rattle.bearer.specs.Account.{indexes}
+use Rattle.bearer.specs.KeeperMeaning.{MarksKept}
 use Rattle.bearer.proofs.Lists.Elements.{in-head, in-tail, in-cons}
 use Rattle.bearer.proofs.Lists.Numbers.{whole, positive, is-before, not-before, ahead-past, never-ahead, lands, to-later, same-packet}
 use Rattle.bearer.proofs.Secondary.Index.{Indexed, image, imageAfter, beyondI, expireI}
@@ -61,6 +62,10 @@ pub highest-most : (c : ℕ) (xs : List ℕ) → ((j : ℕ) → In j xs → j �
 highest-most c [] h = omega arith
 highest-most c (x ∷ xs) h = omega (arith, h x (in-head x xs), highest-most c xs (λ j t. h j (in-tail j x xs t)))
 
+-- the number of an accepted packet names it for nearly a turn
+pub marks-kept : MarksKept
+marks-kept L first r i t near = latest-is L first (numberOf L first i) i (highest (r .received)) (in-highest i (r .received) t) near refl
+
 module _ (L first : ℕ) {a : Indexed} {r : Fates} {told : ℕ} (F : Follows (half L) a r told) where
   -- a received packet is before base or has a record
   received-cases : (j : ℕ) → In j (r .received) → (j < a .base) ⊎ ((a .base ≤ j) × In j (indexes (a .records)))
@@ -79,11 +84,14 @@ module _ (L first : ℕ) {a : Indexed} {r : Fates} {told : ℕ} (F : Follows (ha
 
   -- ---- which packet a mark names
 
-  -- the packet d past base, where that isn't beyond the last record
+  -- the packet d past base, where that isn't beyond the highest accepted
+  pub mark-at : (n d : ℕ) → numberOf L first (a .base + d) ≡ n → a .base + d ≤ highest (r .received) → markOf L first n r ≡ a .base + d
+  mark-at n d e reached = latest-is L first n (a .base + d) (highest (r .received)) reached (omega (arith, highest-near, whole L)) e
+
+  -- ... nor beyond the last record
   pub mark-is : (n d : ℕ) → numberOf L first (a .base + d) ≡ n → Within (a .base) (indexes (a .records)) (a .base + d) → markOf L first n r ≡ a .base + d
   mark-is n d e w =
-      let reached : a .base + d ≤ highest (r .received) = omega (arith, w .from-it, in-highest (w .last) (r .received) (record-received F (w .last) (w .recorded))) in
-      latest-is L first n (a .base + d) (highest (r .received)) reached (omega (arith, highest-near, whole L)) e
+      mark-at n d e (omega (arith, w .from-it, in-highest (w .last) (r .received) (record-received F (w .last) (w .recorded))))
 
   -- one that is no number
   mark-no-number : (n : ℕ) → modulusOf L ≤ n → markOf L first n r ≤ a .base
