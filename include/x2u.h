@@ -166,9 +166,9 @@ static inline int64_t x2u_open(x2u_keeper *k, uint32_t length, uint32_t number, 
 static inline int64_t x2u_arrive(x2u_keeper *k, uint32_t number, uint32_t pdcp);
 
 /* The host's gap timer ran out: how many numbers became lost. `mark` is the highest number accepted when that timer started, and each open
- * number before it is lost. The mark itself is spared, open or not, and so is what came after it, however new its gaps are. Refused in
- * this order: -X2U_CLOSED; -X2U_NUMBER for a mark of M or more; -X2U_MARK for one beyond the highest accepted, or at or past base where
- * nothing there is accepted; -X2U_NO_GAP where no open number is before it, as before a mark behind base; -X2U_RUNS.
+ * number before it is lost. The mark itself is spared, open or not, and so is every number after it. Refused in this order: -X2U_CLOSED;
+ * -X2U_NUMBER for a mark of M or more; -X2U_MARK for one beyond the highest accepted, or at or past base where nothing there is accepted;
+ * -X2U_NO_GAP where no open number is before it, as for a mark behind base; -X2U_RUNS.
  * Take a mark when the timer starts, and drop it when the timer stops: one that was kept while half a circle of numbers went by looks ahead
  * of base again, and good packets may be given up by it. */
 static inline int64_t x2u_expire(x2u_keeper *k, uint32_t mark);
