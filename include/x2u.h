@@ -34,7 +34,7 @@
 #include <stddef.h>
 #include <stdint.h>
 
-#define X2U_VERSION 20400 /* 2.4.0, see CHANGELOG.md */
+#define X2U_VERSION 30000 /* 2.4.0, see CHANGELOG.md */
 
 #if SIZE_MAX != 0xffffffffffffffff
 #error "x2u.h: size_t is to be 64 bits wide: there is no archive for x32 and for 32-bit processors"
@@ -170,7 +170,7 @@ static inline int64_t x2u_arrive(x2u_keeper *k, uint32_t number, uint32_t pdcp);
  * -X2U_NUMBER for a mark of M or more; -X2U_MARK for one beyond the highest accepted, or at or past base where nothing there is accepted;
  * -X2U_NO_GAP where no open number is before it, as for a mark behind base; -X2U_RUNS.
  * Take a mark when the timer starts, and drop it when the timer stops: one that was kept while half a circle of numbers went by looks ahead
- * of base again, and good packets may be given up by it. */
+ * of base again. It gets -X2U_MARK then, until the highest accepted has come round to it, and from there on good packets are given up by it. */
 static inline int64_t x2u_expire(x2u_keeper *k, uint32_t mark);
 
 /* A packet was delivered to the handset. 0. */
