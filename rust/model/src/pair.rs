@@ -76,10 +76,10 @@ impl Pair {
         Ok(answer)
     }
 
-    /// The secondary gives up its gaps.
-    pub fn expire(&mut self) -> Watched<u32> {
-        let answer = self.keeper.expire();
-        self.watch.expired(answer)?;
+    /// The secondary gives up its gaps before a mark.
+    pub fn expire(&mut self, mark: u32) -> Watched<u32> {
+        let answer = self.keeper.expire(mark);
+        self.watch.expired(mark, answer)?;
         Ok(answer)
     }
 
