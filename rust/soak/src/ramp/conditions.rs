@@ -78,8 +78,13 @@ pub const HASTY: u32 = 100;
 /// From secondary back to master.
 pub const ROAD_BACK: Range<u32> = 6..12;
 
-/// A gap this old is given up.
+/// The gap timer: a gap this old is given up.
 pub const GAP: u64 = 30;
+/// In one millisecond of so many the host hands over a mark that no timer had,
+pub const WRONG_MARK: u32 = 1_000;
+/// past all that was accepted by fewer than so many, or up to half the circle
+/// old, or past the circle.
+pub const WRONG_MARK_PAST: usize = 300;
 /// A status is built at least this often.
 pub const STATUS: u64 = 40;
 /// And after as many arrivals.
@@ -229,7 +234,19 @@ pub fn secondary(settings: &Settings) -> Vec<Row> {
     vec![
         (
             "gap timer (expiry)",
-            format!("{GAP} ms after the gap at base is seen"),
+            format!("{GAP} ms after a gap is seen; again while one is left"),
+        ),
+        (
+            "  its mark",
+            "the highest accepted when it starts; it stops when none before that is open"
+                .to_owned(),
+        ),
+        (
+            "  marks that no timer had",
+            format!(
+                "in 1 ms of {}: past all that was accepted, up to half a circle old, or M and more",
+                grouped(WRONG_MARK.into())
+            ),
         ),
         (
             "status",

@@ -1,5 +1,7 @@
 //! Why packets are declared lost, and what becomes of those that are dropped.
 
+use super::spared::Spared;
+
 /// What gave a packet up.
 #[derive(Clone, Copy, Debug, PartialEq, Eq)]
 pub enum By {
@@ -46,6 +48,8 @@ pub struct Losses {
     pub saved: u64,
     /// Dropped, and never declared lost: no later packet arrived before the end.
     pub never_declared: u64,
+    /// What the marks of expiries spared.
+    pub spared: Spared,
 }
 
 impl Losses {
@@ -57,10 +61,12 @@ impl Losses {
     /// A packet was accepted by the secondary.
     pub fn arrived(&mut self, packet: usize) {
         self.saved += u64::from(self.dropped[packet]);
+        self.spared.arrived(packet);
     }
 
     /// A packet was declared lost.
     pub fn lost(&mut self, packet: usize, by: By) {
+        self.spared.lost(packet, self.dropped[packet]);
         if self.dropped[packet] {
             self.dropped_lost.count(by);
         } else {
@@ -72,6 +78,7 @@ impl Losses {
     pub fn end(&mut self, base: usize) {
         let open = self.dropped.get(base..).unwrap_or_default();
         self.never_declared = open.iter().filter(|&&dropped| dropped).count() as u64;
+        self.spared.end(base);
     }
 
     /// Packets that the road dropped.
