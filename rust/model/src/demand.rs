@@ -338,6 +338,16 @@ impl Watch {
         Ok(())
     }
 
+    /// Base and the listed runs at any moment.
+    pub fn stands(&self, base: u32, runs: &[Range]) -> Verdict {
+        let lowest = self.opening.number(self.base);
+        check!(
+            base == lowest,
+            "base is {base}, but the lowest open number is {lowest}"
+        );
+        self.listed(runs)
+    }
+
     /// The listed runs at any moment.
     pub fn listed(&self, runs: &[Range]) -> Verdict {
         let listed = runs.iter().flat_map(|&run| self.expand(run));

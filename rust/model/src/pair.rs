@@ -139,7 +139,8 @@ impl Pair {
 
     /// Compares both ends with what the watch knows of them.
     pub fn check(&mut self) -> Result<(), String> {
-        self.watch.listed(self.keeper.listed_runs())?;
+        let Self { keeper, watch, .. } = self;
+        watch.stands(keeper.base(), keeper.listed_runs())?;
         let octets = self.ledger.waiting_octets();
         self.watch.held(self.ledger.entries(), octets)
     }

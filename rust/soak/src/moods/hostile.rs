@@ -343,17 +343,18 @@ fn watched_take(script: &mut Script) {
 fn closed(script: &mut Script) {
     for _ in 0..script.rng.within(3..12) {
         let number = number(script);
-        match script.rng.within(0..8) {
+        match script.rng.within(0..9) {
             0 => script.arrive_ahead(0),
             1 => script.expire_somewhere(),
-            2 => script.confirm(number),
-            3 => {
+            2 => script.expire(number),
+            3 => script.confirm(number),
+            4 => {
                 let is_final = script.rng.chance(50);
                 script.status(is_final, 1_018);
             }
-            4 => script.send_next(0),
-            5 => script.send_next_at_limit(),
-            6 => {
+            5 => script.send_next(0),
+            6 => script.send_next_at_limit(),
+            7 => {
                 let octets = frames::any(&mut script.rng);
                 script.accept(&octets);
             }
