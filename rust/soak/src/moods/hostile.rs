@@ -341,7 +341,7 @@ fn watched_take(script: &mut Script) {
 
 /// Calls that a closed end refuses.
 fn closed(script: &mut Script) {
-    for _ in 0..script.rng.within(3..12) {
+    for _ in 0..script.rng.within(5..15) {
         let number = number(script);
         match script.rng.within(0..9) {
             0 => script.arrive_ahead(0),
