@@ -142,6 +142,7 @@ fn a_short_ramp_passes_and_is_drawn() {
         }
         // In half a minute hundreds of packets come while a timer runs.
         assert!(figure(&report, "good packets saved") > 0, "{report}");
+        assert_eq!(figure(&report, "youngest gap"), 30, "{report}");
         assert!(
             report.contains("together, all spared by a mark"),
             "{report}"

@@ -300,8 +300,11 @@ impl Play {
         if !self.bench.pair.watch.may_arrive(packet) {
             return Ok(());
         }
+        let highest = self.bench.pair.watch.highest_accepted();
         match self.bench.arrive(packet)? {
             Ok(lost) => {
+                let next = highest.map_or(0, |highest| highest + 1);
+                self.figures.losses.passed(next..packet, self.now);
                 self.figures.losses.arrived(packet);
                 self.gave_up(lost, By::Window);
                 let due = self.now + self.weather.handset();
@@ -388,7 +391,7 @@ impl Play {
     /// So many packets were declared lost just now.
     fn gave_up(&mut self, lost: u32, by: By) {
         for packet in self.bench.pair.watch.last_lost(lost) {
-            self.figures.losses.lost(packet, by);
+            self.figures.losses.lost(packet, by, self.now);
         }
     }
 

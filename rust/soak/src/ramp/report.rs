@@ -243,6 +243,9 @@ impl Report<'_> {
             "  of them, spared a packet by their mark",
             spared.sparing,
         )?;
+        if let Some(youngest) = self.ending.figures.losses.youngest {
+            line(out, "youngest gap that an expiry gave up, ms", youngest)?;
+        }
         let parts = [
             ("arrived after all: good packets saved", spared.arrived),
             ("given up later, dropped on the road", spared.dropped_lost),
