@@ -230,22 +230,31 @@ const FROM_BASE: [u32; 12] = [
     u32::MAX,
 ];
 
+/// A word of a state or of a call: small, around a limit, or any.
+fn word() -> impl Strategy<Value = u32> {
+    let limits = [
+        0_u32, 1, 12, 15, 18, 161, 162, 163, 255, 256, 257, 511, 512, 513,
+    ];
+    prop_oneof![
+        2 => prop::sample::select(limits.to_vec()),
+        2 => 0_u32..70_000,
+        1 => any::<u32>(),
+        1 => Just(u32::MAX),
+    ]
+}
+
+/// A mark: any word, or how far it lies from base.
+fn marks() -> impl Strategy<Value = Result<u32, u32>> {
+    prop_oneof![
+        word().prop_map(Ok),
+        prop::sample::select(FROM_BASE.to_vec()).prop_map(Err)
+    ]
+}
+
 /// States of garbage: words of any kind, arrays of one number but for some
 /// places.
 pub fn garbage() -> impl Strategy<Value = Garbage> {
-    let word = || {
-        prop_oneof![
-            2 => prop::sample::select(vec![0_u32, 1, 12, 15, 18, 161, 162, 163, 255, 256, 257, 511, 512, 513]),
-            2 => 0_u32..70_000,
-            1 => any::<u32>(),
-            1 => Just(u32::MAX),
-        ]
-    };
     let words = [word(), word(), word(), word(), word(), word()];
-    let marks = prop_oneof![
-        word().prop_map(Ok),
-        prop::sample::select(FROM_BASE.to_vec()).prop_map(Err)
-    ];
     let places = prop::collection::vec((0..PLACES, word()), 0..40);
     let lengths = prop::sample::select(vec![0_u32, 12, 15, 18, 40]);
     (
@@ -254,7 +263,7 @@ pub fn garbage() -> impl Strategy<Value = Garbage> {
         (words, lengths, any::<bool>()),
         word(),
         word(),
-        marks,
+        marks(),
         0_usize..1_020,
     )
         .prop_map(

@@ -108,6 +108,27 @@ fn with_sum(answer: &str, other: fn(u32) -> u32) -> String {
     fields.join("\t")
 }
 
+/// Another answer in place of one that begins with that word.
+type Lie = fn(&str) -> String;
+
+/// Each of these lies is a violation, at whatever line the answer stands.
+const LIES: [(&str, Lie); 12] = [
+    ("sent", |answer| answer.replace("65530", "65531")),
+    ("lost", |answer| answer.replace("\t2", "\t1")),
+    ("keeper", |answer| {
+        answer.replacen("keeper\t", "keeper\t1", 1)
+    }),
+    ("frame", |answer| answer.replace("02fffa", "02fffb")),
+    ("freed", |answer| answer.replace("freed\t8", "freed\t7")),
+    ("ledger", |answer| answer.replacen(":l", ":w", 1)),
+    ("ledger", |answer| answer.replacen(":l:1", ":l:2", 1)),
+    ("ledger", |answer| with_sum(answer, |octets| octets + 1)),
+    ("ledger", |answer| with_sum(answer, |_| 0)),
+    ("taken", |answer| answer.replace("65530", "65531")),
+    ("taken", |answer| format!("{answer}0")),
+    ("room", |answer| format!("{answer}1")),
+];
+
 #[test]
 fn demand_3_is_told_from_answers_alone() {
     let trace = bearer().trace;
@@ -119,25 +140,7 @@ fn demand_3_is_told_from_answers_alone() {
         (2, 2, 8, 2)
     );
 
-    // Each of these lies is a violation, at whatever line the answer stands.
-    type Lie = fn(&str) -> String;
-    let lies: [(&str, Lie); 12] = [
-        ("sent", |answer| answer.replace("65530", "65531")),
-        ("lost", |answer| answer.replace("\t2", "\t1")),
-        ("keeper", |answer| {
-            answer.replacen("keeper\t", "keeper\t1", 1)
-        }),
-        ("frame", |answer| answer.replace("02fffa", "02fffb")),
-        ("freed", |answer| answer.replace("freed\t8", "freed\t7")),
-        ("ledger", |answer| answer.replacen(":l", ":w", 1)),
-        ("ledger", |answer| answer.replacen(":l:1", ":l:2", 1)),
-        ("ledger", |answer| with_sum(answer, |octets| octets + 1)),
-        ("ledger", |answer| with_sum(answer, |_| 0)),
-        ("taken", |answer| answer.replace("65530", "65531")),
-        ("taken", |answer| format!("{answer}0")),
-        ("room", |answer| format!("{answer}1")),
-    ];
-    for (word, lie) in lies {
+    for (word, lie) in LIES {
         let mut told = answers.clone();
         let mut changed = 0;
         for answer in &mut told {

@@ -119,6 +119,22 @@ fn figure(report: &str, words: &str) -> u64 {
         .unwrap_or_else(|_| panic!("{words}: {line:?}"))
 }
 
+/// Sees that the marks of expiries saved packets, and that wrong ones were met.
+fn expired_by_marks(report: &str, met: &str) {
+    for refusal in [
+        "10  number past its circle",
+        "19  mark past all",
+        "17  no open number before",
+    ] {
+        assert!(met.contains(&format!("expire    {refusal}")), "{met}");
+    }
+    // In half a minute hundreds of packets come while a timer runs.
+    assert!(figure(report, "good packets saved") > 0, "{report}");
+    assert_eq!(figure(report, "youngest gap"), 30, "{report}");
+    let sum = "together, all spared by a mark";
+    assert!(report.contains(sum), "{report}");
+}
+
 #[test]
 fn a_short_ramp_passes_and_is_drawn() {
     let folder = folder("ramp");
@@ -133,20 +149,7 @@ fn a_short_ramp_passes_and_is_drawn() {
         // Some of these rests begin while packets wait, which are then in front.
         assert!(met.contains("35  PDCP order"), "{met}");
         assert!(met.contains("39  size of 0 or above"), "{met}");
-        for refusal in [
-            "10  number past its circle",
-            "19  mark past all",
-            "17  no open number before",
-        ] {
-            assert!(met.contains(&format!("expire    {refusal}")), "{met}");
-        }
-        // In half a minute hundreds of packets come while a timer runs.
-        assert!(figure(&report, "good packets saved") > 0, "{report}");
-        assert_eq!(figure(&report, "youngest gap"), 30, "{report}");
-        assert!(
-            report.contains("together, all spared by a mark"),
-            "{report}"
-        );
+        expired_by_marks(&report, met);
         assert!(report.contains("together, all rests"), "{report}");
         assert!(
             report.contains("together, all PDCP numbers used"),

@@ -73,6 +73,7 @@ fn run() -> Result<bool, String> {
 
     codecs(&mut suite, least_frames);
     keepers(&mut suite, least_calls);
+    keepers_on_garbage(&mut suite);
     let programs = [library.as_path(), product.as_path()];
     replays(&mut suite, "replay", programs, least_calls, true);
     demand_3(&mut suite, programs, (least_calls / 2_000) as u32 + 1);
@@ -175,25 +176,26 @@ fn keepers(suite: &mut Suite, least: u64) {
         &Aim::Marks,
         &mut alike,
     );
-    let garbage = RefCell::new(0);
+    println!("keeper calls compared: {}", met.calls);
+    suite.check("keeper: enough calls", met.calls >= least);
+    println!("keeper, expiries: {}", met.marks);
+    suite.check("keeper: marks of each kind", met.marks.least() > 0);
+    suite.covers("Keeper through the boundary", &met.table, &keeper::REFUSALS);
+}
+
+/// The keeper on states that no call left behind.
+fn keepers_on_garbage(suite: &mut Suite) {
+    let mut calls = 0;
     suite.property(
         "keeper: states of garbage",
         20_000,
         &keeper::garbage(),
         |case| {
-            *garbage.borrow_mut() += keeper::survives(case)?;
+            calls += keeper::survives(case)?;
             Ok(())
         },
     );
-    println!(
-        "keeper calls compared: {}; on garbage: {}",
-        met.calls,
-        garbage.borrow()
-    );
-    suite.check("keeper: enough calls", met.calls >= least);
-    println!("keeper, expiries: {}", met.marks);
-    suite.check("keeper: marks of each kind", met.marks.least() > 0);
-    suite.covers("Keeper through the boundary", &met.table, &keeper::REFUSALS);
+    println!("keeper calls on garbage: {calls}");
 }
 
 /// Both ends through two makes of `replay`; `long` scripts too, in which the

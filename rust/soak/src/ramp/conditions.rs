@@ -231,23 +231,8 @@ pub fn secondary(settings: &Settings) -> Vec<Row> {
     let short = format!("1 in {SHORT_BUFFER} first asked for");
     let desired = grouped(desired_below(settings.rate).into());
     let again = format!("tried every {HANDSET_AGAIN} ms, 1 in {HASTY} made too early");
-    vec![
-        (
-            "gap timer (expiry)",
-            format!("{GAP} ms after a gap is seen; again while one is left"),
-        ),
-        (
-            "  its mark",
-            "the highest accepted when it starts; it stops when none before that is open"
-                .to_owned(),
-        ),
-        (
-            "  marks that no timer had",
-            format!(
-                "in 1 ms of {}: past all that was accepted, up to half a circle old, or M and more",
-                grouped(WRONG_MARK.into())
-            ),
-        ),
+    let mut rows = gap_timer().to_vec();
+    rows.extend([
         (
             "status",
             format!("{often}; again at once while runs are listed"),
@@ -265,6 +250,29 @@ pub fn secondary(settings: &Settings) -> Vec<Row> {
             format!("{} after the arrival", milliseconds(&HANDSET)),
         ),
         ("confirm of a packet above a gap", again),
+    ]);
+    rows
+}
+
+/// The rows of its gap timer.
+fn gap_timer() -> [Row; 3] {
+    [
+        (
+            "gap timer (expiry)",
+            format!("{GAP} ms after a gap is seen; again while one is left"),
+        ),
+        (
+            "  its mark",
+            "the highest accepted when it starts; it stops when none before that is open"
+                .to_owned(),
+        ),
+        (
+            "  marks that no timer had",
+            format!(
+                "in 1 ms of {}: past all that was accepted, up to half a circle old, or M and more",
+                grouped(WRONG_MARK.into())
+            ),
+        ),
     ]
 }
 
