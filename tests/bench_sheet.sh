@@ -84,7 +84,7 @@ play "256 listed runs"
 
 # Half a circle of packets, in batches of 256: each is sent, arrives, is confirmed, reported and freed. Then 32768 were sent, and base is the
 # next. A copy of packet 0 has 32767 sent after it, fewer than M/2, so demand 3 allows it: it lies opposite base, and one of packet 1 behind
-# it. After one more send demand 3 allows no copy of packet 0; one that comes all the same is taken for a packet to come, numbers that were never
+# it. A mark that was kept since packet 0 lies behind base too, and one packet later ahead of it. After one more send demand 3 allows no copy of packet 0; one that comes all the same is taken for a packet to come, numbers that were never
 # sent are given up, and the master refuses the status that says so (docs/LIMITS.md)
 awk 'BEGIN {
   print "open 15 0 0 = ok"
@@ -97,7 +97,8 @@ awk 'BEGIN {
   print "ledger = ledger 32768 32767 32767 0 7 6 0 none"
   print "arrive 0 0 = refused 18"
   print "arrive 1 1 = refused 11"
-  print "send 0 6 = sent 32768\nroom = room 1\narrive 32768 0 = lost 0\nconfirm 32768 = ok"
+  print "expire 0 = refused 17"
+  print "send 0 6 = sent 32768\nroom = room 1\narrive 32768 0 = lost 0\nexpire 0 = refused 19\nconfirm 32768 = ok"
   print "status 7 6 0 14 = frame 1000000000000700000006000000\naccept 1000000000000700000006000000 = freed 1 lost 0 final 0"
   print "arrive 0 0 = lost 32512"
   print "status 7 6 0 18 = frame 1100000000000700000006018001ff000000\naccept 1100000000000700000006018001ff000000 = refused 33"

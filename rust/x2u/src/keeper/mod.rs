@@ -66,7 +66,8 @@ impl Keeper {
     }
 
     /// The host's gap timer ended: gives up every open number before `mark`, the
-    /// highest accepted when it started. Answers how many became lost.
+    /// highest accepted when it started. Answers how many became lost. A mark that
+    /// was kept while half the circle went by looks ahead of base again.
     pub fn expire(&mut self, mark: u32) -> Answer<u32> {
         refuse_if(self.closed, Refusal::Closed)?;
         let circle = self.bearer.numbers();
