@@ -192,7 +192,7 @@ impl<S: Side> Made<S> {
         for _ in 0..count {
             let number = self.next + 1;
             assert_eq!(S::arrive(&mut self.keeper, number, number & 0xFFF), 0);
-            assert_eq!(S::expire(&mut self.keeper), 1);
+            assert_eq!(S::expire(&mut self.keeper, number), 1);
             self.next += 2;
         }
         self
