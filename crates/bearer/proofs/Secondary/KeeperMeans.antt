@@ -201,9 +201,10 @@ marks-lie L first f k a x base n low small =
     let i = indexed L first f x in
     subst (λ (b : ℕ). (half L ≤ forwardFrom L first b n → markOf L first n (a .fates) ≤ b)
     × (forwardFrom L first b n < half L → packetAt L first b n ≤ highest (a .fates .received) → markOf L first n (a .fates) ≡ packetAt L first b n))
-    (base-is i base low)
-    (mark-before L first (i .follows) n,
-    (λ near. mark-at L first (i .follows) n (forwardFrom L first (i .base) n) (lands (modulusOf L) first (positive L) (i .base) n small)))
+    (base-is i base low) (
+      mark-before L first (i .follows) n,
+      (λ near. mark-at L first (i .follows) n (forwardFrom L first (i .base) n) (lands (modulusOf L) first (positive L) (i .base) n small)),
+    )
 
 pub statuses-say : StatusesSay
 statuses-say L first f k a x d m final buffer c e =

@@ -120,11 +120,13 @@ module _ (L first : ℕ) {base : ℕ} {a : Account} (F : Follows (half L) (index
 
       there : beyondI base (indexes (a .records)) (base + d) ≡ true → MarkBeyond L first (a .fates) base n
       there e =
-          let below = highest-below L first F d e in
-          (near-mark, ⊎-elim
-          (λ (l : 0 < d). inl (omega (arith, highest-most (base + d - 1) got (λ j t. ⊎-elim (λ before. omega arith) (λ from. omega (arith, below j t from)) (order j base)))))
-          (λ (l : d ≤ 0). inr (λ j from. refuted (isIn j got) (λ t. omega (arith, below j t from))))
-          (order 0 d))
+          let below = highest-below L first F d e in (
+            near-mark,
+            ⊎-elim
+                (λ (l : 0 < d). inl (omega (arith, highest-most (base + d - 1) got (λ j t. ⊎-elim (λ before. omega arith) (λ from. omega (arith, below j t from)) (order j base)))))
+                (λ (l : d ≤ 0). inr (λ j from. refuted (isIn j got) (λ t. omega (arith, below j t from))))
+                (order 0 d),
+          )
 
       back : MarkBeyond L first (a .fates) base n → beyondI base (indexes (a .records)) (base + d) ≡ true
       back m =
