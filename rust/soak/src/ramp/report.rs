@@ -20,7 +20,8 @@ const WHY_LATE: &str = "An expiry gives up every open number before its mark, an
 
 /// What the mark of an expiry spares.
 const WHY_SPARED: &str = "Document 01's expiry gave up every open number below the highest accepted, however young. Its mark spares
-  those at or past the highest accepted when the timer started. Each packet that an expiry spared so is counted once.";
+  those at or past the highest accepted when the timer started. Each packet that an expiry spared so is counted once:
+  it arrived between the next timer's start and its end, though the old rule would have declared it lost, or it didn't.";
 
 /// What the figures of a run are that the program failed.
 const RUNS_AHEAD: &str = "\
