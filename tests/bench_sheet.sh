@@ -84,8 +84,9 @@ play "256 listed runs"
 
 # Half a circle of packets, in batches of 256: each is sent, arrives, is confirmed, reported and freed. Then 32768 were sent, and base is the
 # next. A copy of packet 0 has 32767 sent after it, fewer than M/2, so demand 3 allows it: it lies opposite base, and one of packet 1 behind
-# it. A mark that was kept since packet 0 lies behind base too, and one packet later ahead of it. After one more send demand 3 allows no copy of packet 0; one that comes all the same is taken for a packet to come, numbers that were never
-# sent are given up, and the master refuses the status that says so (docs/LIMITS.md)
+# it. A mark that was kept since packet 0 lies before base too, and one packet later ahead of it. After one more send demand 3 allows no copy of
+# packet 0; one that comes all the same is taken for a packet to come, numbers that were never sent are given up, and the master refuses the
+# status that says so (docs/LIMITS.md)
 awk 'BEGIN {
   print "open 15 0 0 = ok"
   for (p = 0; p < 32768; p += 256) {
