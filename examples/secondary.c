@@ -1,4 +1,5 @@
-/* The secondary's end from C: document 01's bench sheet as request One left it, and a block that was never opened, played through x2u.h.
+/* The secondary's end from C: document 01's bench sheet as requests One and Six left it, a block that was never opened, and a host's gap timer,
+ * played through x2u.h.
  * Each line says what was done and what came of it; the exit status is 0 if every outcome is the one wanted.
  *
  *     gcc -Iinclude examples/secondary.c "$(scripts/archive.sh)" -o secondary && ./secondary */
@@ -70,7 +71,7 @@ static void unopened(void)
     x2u_keeper k = X2U_KEEPER_INIT;
     uint8_t frame[X2U_MOST_OCTETS];
     outcome("arrival before any open", x2u_arrive(&k, 0, 0), -X2U_CLOSED);
-    outcome("expiry before any open", x2u_expire(&k), -X2U_CLOSED);
+    outcome("expiry before any open", x2u_expire(&k, 0), -X2U_CLOSED);
     outcome("confirm before any open", x2u_confirm(&k, 0), -X2U_CLOSED);
     outcome("open L 13", x2u_open(&k, 13, 0, 0), -X2U_PDCP_LENGTH);
     outcome("status after a refused open", x2u_status(&k, 0, 0, 0, frame, sizeof frame), -X2U_CLOSED);
@@ -92,6 +93,26 @@ static void window(void)
     x2u_open(&k, 12, 0, 0);
     outcome("instead 32768, opposite base", x2u_arrive(&k, 32768, 0), -X2U_OPPOSITE);
     outcome("instead 32769, behind base", x2u_arrive(&k, 32769, 0), -X2U_LATE);
+}
+
+/* A host's gap timer. When it starts the host remembers the highest number accepted, and hands it over when the timer runs out: gaps that
+ * opened since then are left alone. */
+static void gap_timer(void)
+{
+    x2u_keeper k = X2U_KEEPER_INIT;
+    uint32_t mark;
+    outcome("open L 15, first 0, f 0", x2u_open(&k, 15, 0, 0), 0);
+    outcome("arrival of 0: lost", x2u_arrive(&k, 0, 0), 0);
+    outcome("arrival of 2: lost", x2u_arrive(&k, 2, 2), 0);
+    mark = 2; /* 1 is missing: the timer starts, and 2 is the highest accepted */
+    outcome("arrival of 5 while the timer runs: lost", x2u_arrive(&k, 5, 5), 0);
+    outcome("expiry, mark 2: lost, 1 alone", x2u_expire(&k, mark), 1);
+    mark = 5; /* 3 and 4 are missing: the timer starts again, and 5 is the highest accepted */
+    outcome("arrival of 4 while the timer runs: lost", x2u_arrive(&k, 4, 4), 0);
+    outcome("expiry, mark 5: lost, 3 alone", x2u_expire(&k, mark), 1);
+    outcome("expiry, mark 5 again, which lies behind base now", x2u_expire(&k, mark), -X2U_NO_GAP);
+    outcome("expiry, mark 6, which didn't come", x2u_expire(&k, 6), -X2U_MARK);
+    outcome("expiry, mark 65536", x2u_expire(&k, 65536), -X2U_NUMBER);
 }
 
 /* A status with one range, as it is read: its highest and its range. */
@@ -123,7 +144,7 @@ static void rollover(void)
     outcome("open L 12, first 65534, f 4095", x2u_open(&k, 12, 65534, 4095), 0);
     outcome("arrival of 65534, PDCP 4095: lost", x2u_arrive(&k, 65534, 4095), 0);
     outcome("arrival of 0, PDCP 1: lost", x2u_arrive(&k, 0, 1), 0);
-    outcome("expiry: lost", x2u_expire(&k), 1);
+    outcome("expiry, mark 0: lost", x2u_expire(&k, 0), 1);
     outcome("confirm 0", x2u_confirm(&k, 0), 0);
     both = k;
     length = x2u_status(&k, 65536, 4096, 0, frame, sizeof frame);
@@ -146,8 +167,8 @@ static void held_back(void)
     int64_t lost = 0, length, count = 0, apart = 0;
     outcome("open L 12, first 0, f 0", x2u_open(&k, 12, 0, 0), 0);
     for (uint32_t n = 1; n <= 325; n += 2) lost += x2u_arrive(&k, n, n);
-    lost += x2u_expire(&k);
-    outcome("arrivals of 1, 3, .. 325, expiry: lost", lost, 163);
+    lost += x2u_expire(&k, 325);
+    outcome("arrivals of 1, 3, .. 325, expiry, mark 325: lost", lost, 163);
     for (uint32_t n = 1; n <= 325; n += 2) count += x2u_confirm(&k, n);
     outcome("confirm all of them", count, 0);
     outcome("status with Final", x2u_status(&k, 0, 0, 1, frame, sizeof frame), -X2U_FINAL_RUNS);
@@ -175,6 +196,7 @@ int main(void)
     reading();
     unopened();
     window();
+    gap_timer();
     rollover();
     held_back();
     puts(wrong ? "An outcome is not the one wanted." : "Every outcome is the one wanted.");

@@ -10,7 +10,8 @@
  *         x2u_fields said;
  *         if (x2u_open(&k, 12, 0, 0) < 0) return 1;           // L, the first X2-U number, the first PDCP number
  *         if (x2u_arrive(&k, 1, 1) < 0) return 1;             // number 1 came with PDCP number 1, and number 0 didn't come
- *         if (x2u_expire(&k) != 1) return 1;                  // the host's timer ran out: 1 number is lost
+ *         uint32_t mark = 1;                                  // the highest number accepted as the host's gap timer starts
+ *         if (x2u_expire(&k, mark) != 1) return 1;            // the timer ran out: 1 number before the mark is lost
  *         if (x2u_confirm(&k, 1) < 0) return 1;               // the handset has number 1
  *         int64_t length = x2u_status(&k, 65536, 4096, 0, frame, sizeof frame);
  *         if (length < 0) return 1;                           // minus a refusal; else so many octets go to the master
@@ -33,7 +34,7 @@
 #include <stddef.h>
 #include <stdint.h>
 
-#define X2U_VERSION 20400 /* 2.4.0, see CHANGELOG.md */
+#define X2U_VERSION 30000 /* 3.0.0, see CHANGELOG.md */
 
 #if SIZE_MAX != 0xffffffffffffffff
 #error "x2u.h: size_t is to be 64 bits wide: there is no archive for x32 and for 32-bit processors"
@@ -60,8 +61,10 @@ enum {
     X2U_RUNS = 14,        /* more than 256 runs would be listed */
     X2U_RECORDS = 15,     /* 512 records are held */
     X2U_NO_RECORD = 16,   /* no record of that number, or not before base, or already confirmed */
-    X2U_NO_GAP = 17,      /* no open number below the highest accepted */
+    X2U_NO_GAP = 17,      /* no open number before the mark */
     X2U_OPPOSITE = 18,    /* forward from base to the number is exactly M/2 */
+    X2U_MARK = 19,        /* a mark less than M/2 forward from base and beyond the highest accepted, or so placed when nothing at or past
+                           * base is accepted */
     X2U_ROOM = 20,        /* buffer shorter than the frame */
     X2U_FINAL_RUNS = 22   /* Final asked while listed runs exceed 162 */
 };
@@ -162,8 +165,13 @@ static inline int64_t x2u_open(x2u_keeper *k, uint32_t length, uint32_t number, 
 /* A packet arrived: how many numbers became lost. A stray copy gets -X2U_LATE, -X2U_OPPOSITE or -X2U_AGAIN. */
 static inline int64_t x2u_arrive(x2u_keeper *k, uint32_t number, uint32_t pdcp);
 
-/* Each open number below the highest accepted one is lost: how many. */
-static inline int64_t x2u_expire(x2u_keeper *k);
+/* The host's gap timer ran out: how many numbers became lost. `mark` is the highest number accepted when that timer started, and each open
+ * number before it is lost. The mark itself is spared, open or not, and so is every number after it. Refused in this order: -X2U_CLOSED;
+ * -X2U_NUMBER for a mark of M or more; -X2U_MARK for one beyond the highest accepted, or at or past base where nothing there is accepted;
+ * -X2U_NO_GAP where no open number is before it, as for a mark behind base; -X2U_RUNS.
+ * Take a mark when the timer starts, and drop it when the timer stops: one that was kept while half a circle of numbers went by looks ahead
+ * of base again. It gets -X2U_MARK then, until the highest accepted has come round to it, and from there on good packets are given up by it. */
+static inline int64_t x2u_expire(x2u_keeper *k, uint32_t mark);
 
 /* A packet was delivered to the handset. 0. */
 static inline int64_t x2u_confirm(x2u_keeper *k, uint32_t number);
@@ -181,7 +189,8 @@ int64_t x2u_keeper_arrive(uint32_t numbers[X2U_MOST_RECORDS], uint32_t pdcps[X2U
                           uint32_t starts[X2U_MOST_RUNS], uint32_t ends[X2U_MOST_RUNS], uint32_t words[X2U_WORDS],
                           uint32_t number, uint32_t pdcp);
 int64_t x2u_keeper_expire(uint32_t numbers[X2U_MOST_RECORDS], uint32_t pdcps[X2U_MOST_RECORDS], uint32_t marks[X2U_MOST_RECORDS],
-                          uint32_t starts[X2U_MOST_RUNS], uint32_t ends[X2U_MOST_RUNS], uint32_t words[X2U_WORDS]);
+                          uint32_t starts[X2U_MOST_RUNS], uint32_t ends[X2U_MOST_RUNS], uint32_t words[X2U_WORDS],
+                          uint32_t mark);
 int64_t x2u_keeper_confirm(uint32_t numbers[X2U_MOST_RECORDS], uint32_t pdcps[X2U_MOST_RECORDS], uint32_t marks[X2U_MOST_RECORDS],
                            uint32_t starts[X2U_MOST_RUNS], uint32_t ends[X2U_MOST_RUNS], uint32_t words[X2U_WORDS],
                            uint32_t number);
@@ -204,9 +213,9 @@ static inline int64_t x2u_arrive(x2u_keeper *k, uint32_t number, uint32_t pdcp)
     return x2u_keeper_arrive(X2U_PARTS(k), number, pdcp);
 }
 
-static inline int64_t x2u_expire(x2u_keeper *k)
+static inline int64_t x2u_expire(x2u_keeper *k, uint32_t mark)
 {
-    return x2u_keeper_expire(X2U_PARTS(k));
+    return x2u_keeper_expire(X2U_PARTS(k), mark);
 }
 
 static inline int64_t x2u_confirm(x2u_keeper *k, uint32_t number)

@@ -1,7 +1,7 @@
 #!/usr/bin/env bash
-# Document 01's bench sheet as requests One and Three to Five left it, played call by call on the proved engines by replay: the cases of
-# tests/calls/, a bearer that rested, sizes, room, the sum of what waits, and what docs/LIMITS.md says among them, 163 listed runs, half a
-# circle of packets, a full ledger, also of the largest PDUs, and a hundred rests.
+# Document 01's bench sheet as requests One and Three to Six left it, played call by call on the proved engines by replay: the cases of
+# tests/calls/, a bearer that rested, sizes, room, the sum of what waits, marks, and what docs/LIMITS.md says among them, 163 and 256 listed
+# runs, half a circle of packets, a full ledger, also of the largest PDUs, and a hundred rests.
 set -u
 cd "$(dirname "$0")/.."
 passed=0
@@ -49,7 +49,7 @@ done < <(for file in tests/calls/*.txt; do cat "$file" && echo; done)
   echo "open 15 0 0 = ok"
   for p in $(seq 0 326); do echo "send $p $((p + 1)) = sent $p"; done
   for p in $(seq 0 2 326); do echo "arrive $p $p = lost $((p > 256))"; done
-  echo "expire = lost 128"
+  echo "expire 326 = lost 128"
   for p in $(seq 0 2 326); do echo "confirm $p = ok"; done
   ranges=$(for p in $(seq 1 2 323); do printf '%04x%04x' "$p" "$p"; done)
   echo "status 7 6 1 1018 = refused 22"
@@ -67,10 +67,26 @@ done < <(for file in tests/calls/*.txt; do cat "$file" && echo; done)
 } >"$work/calls"
 play "163 listed runs"
 
+# 256 listed runs, the most there are, and three gaps behind them: 14 comes after 9, 10, 19 and 17, and counts no run past the mark. A status
+# makes room, first for the gap before the mark, then for the others
+{
+  echo "open 12 65500 0 = ok"
+  for i in $(seq 1 2 509); do echo "arrive $(((65500 + i) % 65536)) $i = lost $((i > 256))"; done
+  echo "expire 473 = lost 128"
+  for n in 475 477 479; do echo "arrive $n $n = lost 0"; done
+  printf '%s\n' "expire 475 = lost 1" "expire 477 = refused 14" "expire 478 = refused 14" "expire 479 = refused 14"
+  printf '%s\n' "expire 476 = refused 17" "expire 475 = refused 17" "expire 480 = refused 19" "expire 65536 = refused 10"
+  ranges=$(for i in $(seq 0 2 322); do printf '%04x%04x' $(((65500 + i) % 65536)) $(((65500 + i) % 65536)); done)
+  echo "status 7 6 0 1018 = frame 110fff0000000700000006a2${ranges}0000"
+  printf '%s\n' "expire 476 = refused 17" "expire 477 = lost 1" "expire 477 = refused 17" "expire 479 = lost 1" "expire 479 = refused 17" "expire 480 = refused 19"
+} >"$work/calls"
+play "256 listed runs"
+
 # Half a circle of packets, in batches of 256: each is sent, arrives, is confirmed, reported and freed. Then 32768 were sent, and base is the
 # next. A copy of packet 0 has 32767 sent after it, fewer than M/2, so demand 3 allows it: it lies opposite base, and one of packet 1 behind
-# it. After one more send demand 3 allows no copy of packet 0; one that comes all the same is taken for a packet to come, numbers that were never
-# sent are given up, and the master refuses the status that says so (docs/LIMITS.md)
+# it. A mark that was kept since packet 0 lies before base too, and one packet later ahead of it. After one more send demand 3 allows no copy of
+# packet 0; one that comes all the same is taken for a packet to come, numbers that were never sent are given up, and the master refuses the
+# status that says so (docs/LIMITS.md)
 awk 'BEGIN {
   print "open 15 0 0 = ok"
   for (p = 0; p < 32768; p += 256) {
@@ -82,7 +98,8 @@ awk 'BEGIN {
   print "ledger = ledger 32768 32767 32767 0 7 6 0 none"
   print "arrive 0 0 = refused 18"
   print "arrive 1 1 = refused 11"
-  print "send 0 6 = sent 32768\nroom = room 1\narrive 32768 0 = lost 0\nconfirm 32768 = ok"
+  print "expire 0 = refused 17"
+  print "send 0 6 = sent 32768\nroom = room 1\narrive 32768 0 = lost 0\nexpire 0 = refused 19\nconfirm 32768 = ok"
   print "status 7 6 0 14 = frame 1000000000000700000006000000\naccept 1000000000000700000006000000 = freed 1 lost 0 final 0"
   print "arrive 0 0 = lost 32512"
   print "status 7 6 0 18 = frame 1100000000000700000006018001ff000000\naccept 1100000000000700000006018001ff000000 = refused 33"
@@ -96,7 +113,7 @@ play "half a circle of packets"
   for p in $(seq 0 511); do echo "send $p 1 = sent $p"; done
   printf '%s\n' "send 32768 0 = refused 10" "send 511 1 = refused 35" "send 16384 1 = refused 35" "send 32767 1 = refused 35" "send 16383 1 = refused 36"
   printf '%s\n' "send 511 0 = refused 39" "send 16383 0 = refused 39" "send 16383 16385 = refused 39" "send 16383 16384 = refused 36"
-  echo "expire = refused 17"
+  printf '%s\n' "expire 0 = refused 19" "expire 511 = refused 19" "expire 65535 = refused 17"
   echo "status 7 6 0 14 = frame 107fff0000000700000006000000"
   echo "accept 107fff0000000700000006000000 = freed 0 lost 0 final 0"
   echo "send 16383 1 = refused 36"
@@ -159,7 +176,7 @@ for bits in 12 15 18; do
       printf "send %d %d = sent %d\nsend %d %d = refused 35\nsend %d %d = refused 35\n", p, z, n, p, z, (p + size / 2) % size, z
       lost = lost n ":" p ":l:" z; first = n; n = (n + 1) % m; p = (p + 1) % size
       if (p == highest) { printf "send %d 1 = refused 35\n", p; p = (p + 1) % size }
-      printf "send %d 1 = sent %d\narrive %d %d = lost 0\nexpire = lost 1\nconfirm %d = ok\n", p, n, n, p, n
+      printf "send %d 1 = sent %d\narrive %d %d = lost 0\nexpire %d = lost 1\nconfirm %d = ok\n", p, n, n, p, n, n
       printf "status 7 6 0 1018 = frame " frame "\naccept " frame " = freed 1 lost 1 final 0\nroom = room 7\n", p, first, first, p, first, first
       highest = p; n = (n + 1) % m
       printf "ledger = ledger %d %d %d 0 7 6 0 %s\n", n, highest, highest, lost

@@ -112,7 +112,7 @@ static const int of_data[] = {10, 20, 0};
 static const int of_write[] = {4, 5, 10, 20, 0};
 static const int of_open[] = {7, 10, 0};
 static const int of_arrive[] = {9, 10, 18, 11, 12, 13, 14, 15, 0};
-static const int of_expire[] = {9, 14, 17, 0};
+static const int of_expire[] = {9, 10, 19, 17, 14, 0};
 static const int of_confirm[] = {9, 10, 16, 0};
 /* 4 and 10 only in states that no calls reach: a highest or a run of garbage */
 static const int of_status[] = {9, 22, 20, 4, 10, 0};
@@ -334,7 +334,7 @@ static void calls(struct part *p, x2u_keeper *k, uint8_t *all, size_t most)
         was = *k;
         judge(p, k, &was, x2u_confirm(k, turn % 2 ? odd_word() : k->opaque[X2U_AT_NUMBERS + random_word() % X2U_MOST_RECORDS]), 0, of_confirm, "a confirm answers");
         was = *k;
-        judge(p, k, &was, x2u_expire(k), 16777216, of_expire, "an expiry answers");
+        judge(p, k, &was, x2u_expire(k, turn % 2 ? odd_word() : k->opaque[X2U_AT_NUMBERS + (k->opaque[AT_RECORDS] - 1) % X2U_MOST_RECORDS]), 16777216, of_expire, "an expiry answers");
         was = *k;
         size_t room = random_word() % 3 ? most : random_word() % (most + 1);
         uint8_t *buffer = all + most - room;
@@ -432,8 +432,11 @@ static void full(void)
     fill(k, sizeof *k, random_word);
     must(&p, x2u_open(k, 12, first, f) == 0, "open");
     for (uint32_t n = 1; n <= 511; n += 2) must(&p, x2u_arrive(k, (first + n) % 65536, f + n) == (n > 256), "every second number");
-    must(&p, x2u_expire(k) == 128, "the rest is lost");
-    must(&p, x2u_arrive(k, (first + 513) % 65536, f + 513) == 0 && x2u_expire(k) == -X2U_RUNS, "256 runs are listed");
+    must(&p, x2u_expire(k, 65536) == -X2U_NUMBER && x2u_expire(k, (first + 512) % 65536) == -X2U_MARK, "a mark that never came");
+    must(&p, x2u_expire(k, (first + 255) % 65536) == -X2U_NO_GAP && x2u_expire(k, (first + 256) % 65536) == -X2U_NO_GAP, "a mark behind base, and base");
+    must(&p, x2u_expire(k, (first + 258) % 65536) == 1, "an open mark is spared");
+    must(&p, x2u_expire(k, (first + 511) % 65536) == 127, "the rest is lost");
+    must(&p, x2u_arrive(k, (first + 513) % 65536, f + 513) == 0 && x2u_expire(k, (first + 513) % 65536) == -X2U_RUNS, "256 runs are listed");
     for (uint32_t n = 512; n <= 767; n++) must(&p, x2u_arrive(k, (first + n) % 65536, f + n) == (n == 513 ? -X2U_LATE : 0), "then each number");
     must(&p, x2u_arrive(k, (first + 768) % 65536, f + 768) == -X2U_RECORDS, "512 records are held");
     must(&p, x2u_arrive(k, (first + 768 + 32768) % 65536, 4096) == -X2U_NUMBER, "opposite base, past the PDCP circle");

@@ -254,7 +254,7 @@ begin "$replay"
   tell 'open\t12\t0\t0\n'; hear
   tell 'send\t0\t40\narrive\t0\t0\n'; hear; hear
   tell 'exp'; hear 0.3
-  tell 'ire\nconfirm\t0\nroom\n'; hear; hear; hear
+  tell 'ire\t0\nconfirm\t0\nroom\n'; hear; hear; hear
   tell 'take'; ended; hear
 } >out
 wrote 'ok\nsent\t0\nlost\t0\n\nrefused\t17\nok\nroom\t0\nstatus 0\nrefused\t38\n'

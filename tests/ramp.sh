@@ -43,6 +43,8 @@ for bits in 12 15 18; do
   done
   holds "L $bits, sends that waited for the PDCP order" grep -qE '^  master, send +35 .* [0-9,]+$' "$out/$bits.txt"
   holds "L $bits, sends of a wrong size" grep -qE '^  master, send +39 .* [0-9,]+$' "$out/$bits.txt"
+  holds "L $bits, good packets saved by the marks of expiries" grep -qE '^  arrived after all: good packets saved +[1-9][0-9,]*$' "$out/$bits.txt"
+  holds "L $bits, marks past all that was accepted" grep -qE '^  secondary, expire +19 .* [0-9,]+$' "$out/$bits.txt"
   for room in '  times it was 0' 'least above 0'; do
     holds "L $bits, room: $room" grep -qE "^  $room +[1-9][0-9,]*$" "$out/$bits.txt"
   done
@@ -64,7 +66,7 @@ ln -s "$PWD" "$out/link"
 rm "$out/link"
 holds "the shipped build is known through a link" grep -q '^  build  *the shipped one' "$out/link.txt"
 holds "the commit is known through a link" grep -q "^Commit  *$commit" "$out/link.txt"
-for sum in offered 'that had to wait' 'declared lost' dropped 'octets sent' rests 'PDCP numbers used'; do
+for sum in offered 'that had to wait' 'declared lost' 'spared by a mark' dropped 'octets sent' rests 'PDCP numbers used'; do
   holds "the parts of what was $sum add up" [ "$(grep -c "^  together, all $sum " "$out/12.txt")" -eq 1 ]
 done
 declared() { sed -n "s/^  $1  *\([0-9,]*\)$/\1/p" "$out/12.txt" | head -n 1; }

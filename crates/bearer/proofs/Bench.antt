@@ -19,7 +19,8 @@ use Rattle.bearer.specs.Account.{packetsFrom}
 pub data Call : Type 0 where
   -- a number and a PDCP number arrive
   arrives : ℕ → ℕ → Outcome ℕ → Call
-  expires : Outcome ℕ → Call
+  -- what is open before a mark expires
+  expires : ℕ → Outcome ℕ → Call
   -- a number is confirmed
   confirms : ℕ → Outcome Unit → Call
   -- a status with desired size, minimum size and Final, and what is read in the frame that it built
@@ -86,7 +87,7 @@ readReport r = readBuilt (r .answer) (r .buffer)
 abbrev pub CallsAnswered : K.Keeper → List Call → ℕ → Type 0
 CallsAnswered k [] base = k .base ≡ base
 CallsAnswered k (arrives n p a ∷ cs) base = (K.arrive k n p .answer ≡ a) × CallsAnswered (K.arrive k n p .state) cs base
-CallsAnswered k (expires a ∷ cs) base = (K.expire k .answer ≡ a) × CallsAnswered (K.expire k .state) cs base
+CallsAnswered k (expires n a ∷ cs) base = (K.expire k n .answer ≡ a) × CallsAnswered (K.expire k n .state) cs base
 CallsAnswered k (confirms n a ∷ cs) base = (K.confirm k n .answer ≡ a) × CallsAnswered (K.confirm k n .state) cs base
 CallsAnswered k (reports d m final r ∷ cs) base = (readReport (K.status k d m final bench) ≡ r) × CallsAnswered (K.status k d m final bench .state) cs base
 
@@ -143,9 +144,13 @@ telling long h d m ranges = record { long = long; final = false; highest = h; de
 abbrev pub size-octets : List ℕ
 size-octets = 0x00 ∷ 0x01 ∷ 0x00 ∷ 0x00 ∷ 0x00 ∷ 0x00 ∷ 0x10 ∷ 0x00 ∷ []
 
--- arrivals on both sides of the rollover, expiry, and then other calls
+-- arrivals on both sides of the rollover, expiry with the mark 0, and then other calls
 abbrev pub over-rollover : List Call → List Call
-over-rollover cs = arrives 65534 4095 (done 0) ∷ arrives 0 1 (done 0) ∷ expires (done 1) ∷ cs
+over-rollover cs = arrives 65534 4095 (done 0) ∷ arrives 0 1 (done 0) ∷ expires 0 (done 1) ∷ cs
+
+-- a status whose frame carries these runs and repeats the highest 0
+abbrev pub tells : List Range → Call
+tells rs = reports 0 0 false (status-of (telling false 0 0 0 rs))
 
 -- so many runs of one number
 abbrev pub runs : ℕ → List Range
@@ -313,14 +318,46 @@ circles =
     ∷ secondary (K.openKeeper 15 0 0) (arrives 32768 0 (refused 18) ∷ arrives 32769 0 (refused 11) ∷ arrives 0 32768 (refused 10) ∷ []) 0
     ∷ secondary (K.openKeeper 18 0 0) (arrives 8388607 262143 (done 8388352) ∷ []) 8388352
     ∷ secondary (K.openKeeper 18 0 0) (arrives 8388608 0 (refused 18) ∷ arrives 8388609 0 (refused 11) ∷ arrives 0 262144 (refused 10) ∷ []) 0
-    ∷ secondary (K.openKeeper 12 0 0) (arrives 0 0 (done 0) ∷ arrives 32767 0 (done 32511) ∷ expires (done 255) ∷ confirms 0 (done tt) ∷ arrives 0 0 (refused 18) ∷ arrives 1 0 (refused 11) ∷ arrives 32768 0 (refused 13) ∷ []) 32768
-    ∷ secondary (K.openKeeper 12 0 0) (arrives 32767 0 (done 32512) ∷ expires (done 255) ∷ arrives 0 0 (refused 18) ∷ arrives 1 0 (refused 11) ∷ arrives 32768 0 (refused 13) ∷ []) 32768
+    ∷ secondary (K.openKeeper 12 0 0) (arrives 0 0 (done 0) ∷ arrives 32767 0 (done 32511) ∷ expires 32767 (done 255) ∷ confirms 0 (done tt) ∷ arrives 0 0 (refused 18) ∷ arrives 1 0 (refused 11) ∷ arrives 32768 0 (refused 13) ∷ []) 32768
+    ∷ secondary (K.openKeeper 12 0 0) (arrives 32767 0 (done 32512) ∷ expires 32767 (done 255) ∷ arrives 0 0 (refused 18) ∷ arrives 1 0 (refused 11) ∷ arrives 32768 0 (refused 13) ∷ []) 32768
     ∷ turns (G.openLedger 15 0 0) (sends 32767 (refused 35) ∷ sends 0 (done 0) ∷ sends 16384 (refused 35) ∷ sends 16383 (done 1) ∷ [])
     ∷ turns (G.openLedger 18 0 0) (sends 262143 (refused 35) ∷ sends 0 (done 0) ∷ sends 131072 (refused 35) ∷ sends 131071 (done 1) ∷ [])
     ∷ not-opened 15 65536 0 10
     ∷ not-opened 15 0 32768 10
     ∷ not-opened 18 16777216 0 10
     ∷ not-opened 18 0 262144 10
+    ∷ []
+
+-- expiry by its mark (request Six)
+abbrev pub marked : List Case
+marked =
+    -- the mark itself is spared, open or not; a gap past the mark stays open; the next expiry takes the rest
+    secondary (K.openKeeper 12 10 0) (arrives 12 0 (done 0) ∷ arrives 15 0 (done 0) ∷ expires 11 (done 1) ∷ expires 11 (refused 17) ∷ expires 12 (done 1) ∷ expires 12 (refused 17) ∷ expires 15 (done 2) ∷ []) 16
+    ∷ secondary (K.openKeeper 12 10 0) (arrives 11 0 (done 0) ∷ arrives 13 0 (done 0) ∷ expires 11 (done 1) ∷ arrives 12 0 (done 0) ∷ []) 14
+    ∷ secondary (K.openKeeper 12 10 0) (arrives 15 0 (done 0) ∷ expires 13 (done 3) ∷ arrives 13 0 (done 0) ∷ arrives 14 0 (done 0) ∷ []) 16
+    -- 19 past the highest accepted, up to, and without, half the circle; from there on the mark lies behind
+    ∷ secondary (K.openKeeper 12 0 0) (arrives 5 0 (done 0) ∷ expires 6 (refused 19) ∷ expires 32767 (refused 19) ∷ expires 32768 (refused 17) ∷ expires 32769 (refused 17) ∷ expires 65535 (refused 17) ∷ expires 65536 (refused 10) ∷ expires 5 (done 5) ∷ []) 6
+    -- nothing at or past base is accepted: 19 at base too
+    ∷ secondary (K.openKeeper 12 0 0) (expires 0 (refused 19) ∷ expires 1 (refused 19) ∷ expires 65535 (refused 17) ∷ arrives 0 0 (done 0) ∷ expires 0 (refused 17) ∷ expires 1 (refused 19) ∷ expires 2 (refused 19) ∷ arrives 2 0 (done 0) ∷ expires 1 (refused 17) ∷ expires 2 (done 1) ∷ []) 3
+    -- over the rollover, at each form
+    ∷ secondary (K.openKeeper 15 65534 0) (arrives 1 0 (done 0) ∷ expires 2 (refused 19) ∷ expires 65533 (refused 17) ∷ expires 65535 (done 1) ∷ expires 0 (done 1) ∷ expires 1 (done 1) ∷ []) 2
+    ∷ secondary (K.openKeeper 18 16777214 0) (arrives 1 0 (done 0) ∷ expires 16777216 (refused 10) ∷ expires 8388605 (refused 19) ∷ expires 8388606 (refused 17) ∷ expires 0 (done 2) ∷ []) 0
+    -- a record opposite base is before it, and no highest accepted at or past base
+    ∷ secondary (done (K.freshKeeper 12 1000 1 with-records (K.newRecord 33768 0 ∷ []))) (expires 1000 (refused 19) ∷ expires 33767 (refused 19) ∷ expires 33768 (refused 17) ∷ []) 1000
+    -- what is listed then: each gap before the mark, joined where they adjoin, also those of two expiries and over the rollover, but not those reported
+    ∷ secondary (K.openKeeper 12 10 1) (arrives 12 0 (done 0) ∷ arrives 14 0 (done 0) ∷ arrives 16 0 (done 0) ∷ arrives 17 0 (done 0) ∷ arrives 19 0 (done 0) ∷ expires 16 (done 4) ∷ tells ((10 to 11) ∷ (13 to 13) ∷ (15 to 15) ∷ []) ∷ []) 18
+    ∷ secondary (K.openKeeper 12 10 1) (arrives 15 0 (done 0) ∷ expires 11 (done 1) ∷ expires 13 (done 2) ∷ arrives 13 0 (done 0) ∷ expires 15 (done 1) ∷ tells ((10 to 12) ∷ (14 to 14) ∷ []) ∷ []) 16
+    ∷ secondary (K.openKeeper 12 65534 1) (arrives 2 0 (done 0) ∷ expires 0 (done 2) ∷ expires 1 (done 1) ∷ tells ((65534 to 0) ∷ []) ∷ []) 1
+    ∷ secondary (K.openKeeper 12 10 1) (arrives 15 0 (done 0) ∷ expires 12 (done 2) ∷ tells ((10 to 11) ∷ []) ∷ expires 14 (done 2) ∷ tells ((12 to 13) ∷ []) ∷ []) 14
+    -- 14 by the runs before the mark, once they are joined
+    ∷ secondary (done (listing 255 with-records (K.newRecord 1001 0 ∷ K.newRecord 1003 0 ∷ []))) (expires 1003 (refused 14) ∷ expires 1001 (done 1) ∷ expires 1003 (refused 14) ∷ []) 1002
+    ∷ secondary (done (K.freshKeeper 12 511 1 with-runs runs 256 with-records (K.newRecord 513 0 ∷ []))) (expires 512 (done 1) ∷ expires 513 (done 1) ∷ []) 514
+    -- with packet 0 alone accepted, 32768 is half the circle less 1 forward from base, and 32769 is half of it
+    ∷ secondary (K.openKeeper 12 0 1) (arrives 0 0 (done 0) ∷ expires 32768 (refused 19) ∷ expires 32769 (refused 17) ∷ []) 1
+    -- a mark kept for a turn: 17, then 19, and then what is open before the packet of a turn later is lost
+    ∷ secondary (K.openKeeper 12 0 1) (arrives 0 0 (done 0) ∷ confirms 0 (done tt) ∷ tells [] ∷ arrives 32767 0 (done 32511) ∷ tells ((1 to 32511) ∷ []) ∷ expires 0 (refused 17) ∷ arrives 65000 0 (done 32232) ∷ expires 0 (refused 19) ∷ tells ((32512 to 32766) ∷ (32768 to 64744) ∷ []) ∷ confirms 32767 (done tt) ∷ tells [] ∷ arrives 5 0 (done 540) ∷ expires 0 (done 250) ∷ []) 0
+    -- the last record counts, not the window: a record 300 past base, which no calls make
+    ∷ secondary (done (K.freshKeeper 12 1000 1 with-records (K.newRecord 1001 0 ∷ K.newRecord 1300 0 ∷ []))) (expires 1001 (done 1) ∷ []) 1002
     ∷ []
 
 -- the PDCP order of sends (request Three)
@@ -440,15 +477,20 @@ secondary-orders =
     not-opened 13 65536 0 7
     ∷ not-opened 12 65536 0 10
     -- arrival: 9 before 10, 10 before 18 and 11 (no number is both), 18 and 11 before 12, 12 before 13, 13 before 14, 14 before 15
-    ∷ secondary (done shut) (arrives 65536 0 (refused 9) ∷ expires (refused 9) ∷ confirms 65536 (refused 9) ∷ []) 1000
+    ∷ secondary (done shut) (arrives 65536 0 (refused 9) ∷ expires 65536 (refused 9) ∷ confirms 65536 (refused 9) ∷ []) 1000
     ∷ secondary (K.openKeeper 12 0 0) (arrives 98304 0 (refused 10) ∷ arrives 32768 4096 (refused 10) ∷ arrives 105536 0 (refused 10) ∷ arrives 40000 4096 (refused 10) ∷ []) 0
     ∷ secondary (done (K.freshKeeper 12 1000 1 with-records (K.newRecord 33768 0 ∷ []))) (arrives 33768 0 (refused 18) ∷ []) 1000
     ∷ secondary (K.openKeeper 12 0 0) (arrives 0 0 (done 0) ∷ arrives 0 0 (refused 11) ∷ []) 1
     ∷ secondary (done (K.freshKeeper 12 1000 1 with-runs ((33768 to 33768) ∷ []) with-records (K.newRecord 1001 0 ∷ []))) (arrives 1001 0 (refused 12) ∷ []) 1000
     ∷ secondary (done (listing 256)) (arrives 32768 0 (refused 13) ∷ []) 1000
     ∷ secondary (done (listing 256 with-records records 512)) (arrives 1256 0 (refused 14) ∷ []) 1000
-    -- expiry: 17 before 14
-    ∷ secondary (done (listing 257)) (expires (refused 17) ∷ []) 1000
+    -- expiry: 9 before 17, 14, 19 and what would be accepted; 10 before 19, 17 and 14; 19 before 17 (the mark is base, and nothing from there on is
+    -- accepted) and before 14; 17 before 14
+    ∷ secondary (done (listing 256 with-closed true with-records (K.newRecord 1002 0 ∷ []))) (expires 999 (refused 9) ∷ expires 1000 (refused 9) ∷ expires 1002 (refused 9) ∷ expires 1003 (refused 9) ∷ []) 1000
+    ∷ secondary (done (shut with-records (K.newRecord 1002 0 ∷ []))) (expires 1002 (refused 9) ∷ []) 1000
+    ∷ secondary (done (listing 257)) (expires 65536 (refused 10) ∷ expires 66536 (refused 10) ∷ expires 1000 (refused 19) ∷ expires 1001 (refused 19) ∷ expires 999 (refused 17) ∷ []) 1000
+    ∷ secondary (done (listing 256 with-records (K.newRecord 1002 0 ∷ []))) (expires 1003 (refused 19) ∷ expires 1000 (refused 17) ∷ expires 1002 (refused 14) ∷ expires 1001 (refused 14) ∷ []) 1000
+    ∷ secondary (done (listing 257 with-records (K.newRecord 1002 0 ∷ []))) (expires 66536 (refused 10) ∷ expires 66537 (refused 10) ∷ expires 66535 (refused 10) ∷ expires 1000 (refused 17) ∷ expires 1001 (refused 14) ∷ []) 1000
     -- confirm: 10 before 16, 16
     ∷ secondary (K.openKeeper 12 0 0) (confirms 65536 (refused 10) ∷ confirms 5 (refused 16) ∷ []) 0
     -- status: 9 before 22, 22 before 20, 20
@@ -477,7 +519,7 @@ master-orders =
 
 -- all of them, part by part
 abbrev pub cases : List (List Case)
-cases = sheet ∷ written ∷ laid ∷ are-read ∷ circles ∷ rested ∷ bytes ∷ summed ∷ summed-anyhow ∷ stores ∷ frame-orders ∷ secondary-orders ∷ master-orders ∷ []
+cases = sheet ∷ written ∷ laid ∷ are-read ∷ circles ∷ marked ∷ rested ∷ bytes ∷ summed ∷ summed-anyhow ∷ stores ∷ frame-orders ∷ secondary-orders ∷ master-orders ∷ []
 
 -- ---- each case holds
 
@@ -495,6 +537,9 @@ are-read-hold = (refl, (refl, (refl, (refl, (refl, (refl, (refl, (refl, (refl, t
 
 circles-hold : AllHold circles
 circles-hold = ((refl, refl), ((refl, (refl, (refl, refl))), ((refl, refl), ((refl, (refl, (refl, refl))), ((refl, (refl, (refl, (refl, (refl, (refl, (refl, refl))))))), ((refl, (refl, (refl, (refl, (refl, refl))))), ((refl, (refl, (refl, (refl, tt)))), ((refl, (refl, (refl, (refl, tt)))), ((refl, refl), ((refl, refl), ((refl, refl), ((refl, refl), tt))))))))))))
+
+marked-hold : AllHold marked
+marked-hold = ((refl, (refl, (refl, (refl, (refl, (refl, (refl, refl))))))), ((refl, (refl, (refl, (refl, refl)))), ((refl, (refl, (refl, (refl, refl)))), ((refl, (refl, (refl, (refl, (refl, (refl, (refl, (refl, refl)))))))), ((refl, (refl, (refl, (refl, (refl, (refl, (refl, (refl, (refl, (refl, refl)))))))))), ((refl, (refl, (refl, (refl, (refl, (refl, refl)))))), ((refl, (refl, (refl, (refl, (refl, refl))))), ((refl, (refl, (refl, refl))), ((refl, (refl, (refl, (refl, (refl, (refl, (refl, refl))))))), ((refl, (refl, (refl, (refl, (refl, (refl, refl)))))), ((refl, (refl, (refl, (refl, refl)))), ((refl, (refl, (refl, (refl, (refl, refl))))), ((refl, (refl, (refl, refl))), ((refl, (refl, refl)), ((refl, (refl, (refl, refl))), ((refl, (refl, (refl, (refl, (refl, (refl, (refl, (refl, (refl, (refl, (refl, (refl, (refl, refl))))))))))))), ((refl, refl), tt)))))))))))))))))
 
 rested-hold : AllHold rested
 rested-hold = ((refl, (refl, (refl, (refl, (refl, (refl, tt)))))), ((refl, (refl, (refl, (refl, (refl, tt))))), ((refl, (refl, (refl, (refl, tt)))), ((refl, (refl, (refl, (refl, (refl, (refl, tt)))))), ((refl, (refl, (refl, (refl, (refl, (refl, tt)))))), ((refl, (refl, (refl, (refl, tt)))), ((refl, (refl, (refl, (refl, (refl, (refl, (refl, tt))))))), ((refl, (refl, (refl, (refl, (refl, (refl, (refl, tt))))))), ((refl, (refl, (refl, (refl, (refl, tt))))), ((refl, (refl, (refl, (refl, (refl, (refl, (refl, tt))))))), ((refl, (refl, (refl, (refl, (refl, (refl, (refl, tt))))))), tt)))))))))))
@@ -515,11 +560,11 @@ frame-orders-hold : AllHold frame-orders
 frame-orders-hold = (refl, (refl, (refl, (refl, (refl, (refl, (refl, (refl, tt))))))))
 
 secondary-orders-hold : AllHold secondary-orders
-secondary-orders-hold = ((refl, refl), ((refl, refl), ((refl, (refl, (refl, refl))), ((refl, (refl, (refl, (refl, refl)))), ((refl, refl), ((refl, (refl, refl)), ((refl, refl), ((refl, refl), ((refl, refl), ((refl, refl), ((refl, (refl, refl)), ((refl, refl), ((refl, (refl, refl)), tt)))))))))))))
+secondary-orders-hold = ((refl, refl), ((refl, refl), ((refl, (refl, (refl, refl))), ((refl, (refl, (refl, (refl, refl)))), ((refl, refl), ((refl, (refl, refl)), ((refl, refl), ((refl, refl), ((refl, refl), ((refl, (refl, (refl, (refl, refl)))), ((refl, refl), ((refl, (refl, (refl, (refl, (refl, refl))))), ((refl, (refl, (refl, (refl, refl)))), ((refl, (refl, (refl, (refl, (refl, refl))))), ((refl, (refl, refl)), ((refl, refl), ((refl, (refl, refl)), tt)))))))))))))))))
 
 master-orders-hold : AllHold master-orders
 master-orders-hold = ((refl, (refl, tt)), ((refl, (refl, (refl, (refl, (refl, tt))))), ((refl, tt), (refl, (refl, (refl, (refl, (refl, (refl, (refl, (refl, tt)))))))))))
 
 -- every case holds
 pub all-hold : PartsHold cases
-all-hold = (sheet-hold, (written-hold, (laid-hold, (are-read-hold, (circles-hold, (rested-hold, (bytes-hold, (summed-hold, (summed-anyhow-hold, (stores-hold, (frame-orders-hold, (secondary-orders-hold, (master-orders-hold, tt)))))))))))))
+all-hold = (sheet-hold, (written-hold, (laid-hold, (are-read-hold, (circles-hold, (marked-hold, (rested-hold, (bytes-hold, (summed-hold, (summed-anyhow-hold, (stores-hold, (frame-orders-hold, (secondary-orders-hold, (master-orders-hold, tt))))))))))))))

@@ -15,6 +15,7 @@ pub mod FollowsStatus
 pub mod Accounts
 pub mod Floor
 pub mod FollowsMeans
+pub mod MarkOf
 pub mod KeeperMeans
 pub mod StatusesFit
 pub mod Sentences

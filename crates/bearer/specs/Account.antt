@@ -1,5 +1,6 @@
--- The secondary's rule, whole, in document 01's own sentences, on packet indexes that never roll over: what its accepted calls make of the
--- packets' fates (Rule.antt), of the records, of what was reported and of the end itself. Nothing that the machines do is used here.
+-- The secondary's rule, whole, in document 01's own sentences, as document 02's requests changed them, on packet indexes that never roll over:
+-- what its accepted calls make of the packets' fates (Rule.antt), of the records, of what was reported and of the end itself. Nothing that the
+-- machines do is used here.
 -- Assumes nothing.
 use mathlib.Core.Path.{_≡_}
 use mathlib.Core.Bool.{Bool, true, false}
@@ -114,9 +115,9 @@ recorded h (x ∷ xs) = if ltb (h .index) (x .index) then h ∷ x ∷ xs else x 
 abbrev pub arriving : Account → ℕ → ℕ → Account
 arriving a i p = a with-fates arrival (a .fates) i with-records recorded (record { index = i; pdcp = p; confirmed = false }) (a .records)
 
--- "Expiry declares lost each open number below the highest accepted one."
-abbrev pub expiring : Account → Account
-expiring a = a with-fates expiry (a .fates)
+-- "Expiry now takes a mark, .. and declares lost only open numbers before it."
+abbrev pub expiring : Account → ℕ → Account
+expiring a mark = a with-fates expiry (a .fates) mark
 
 -- the record of packet i, delivered to the handset; any other as it is
 abbrev pub deliveredIf : ℕ → Held → Held

@@ -14,7 +14,7 @@ use mathlib.Core.Path.{_≡_}
 use mathlib.Core.Bool.{Bool, true, false}
 use mathlib.Core.List.{List, [], _∷_, _++_, map}
 use mathlib.Core.Logic.{_⊎_, _↔_}
-use Prim.Native.Nat.{ℕ, _+_, _-_, _^_, _≤_, _<_}
+use Prim.Native.Nat.{ℕ, zero, suc, _+_, _-_, _^_, _≤_, _<_}
 use lib.Dec.{ltb, eqb}
 use lib.ListN.{length, getD, take}
 use Rattle.basics.specs.Basics.{Outcome, done, refused, isDone}
@@ -22,8 +22,8 @@ use Rattle.circle.specs.Lengths.{half}
 use Rattle.frame_layout.specs.Frames.{Range, Reading, data-of, status-of, refuse, readFrame}
 use Rattle.bearer.specs.Keeper as K
 use Rattle.bearer.specs.Ledger as G
-use Rattle.bearer.specs.Rule.{isOpen, Lowest, arrival}
-use Rattle.bearer.specs.Packets.{numberOf, inRanges, Rising, In}
+use Rattle.bearer.specs.Rule.{isOpen, Lowest, arrival, expiry}
+use Rattle.bearer.specs.Packets.{numberOf, markOf, inRanges, Rising, In}
 use Rattle.bearer.specs.World.{Event, Built, World, freshWorld, inFlight, hadFinal, step, send, copy, stray, expire, confirm, status, deliver, other, take-one, open-secondary, open-master}
 
 -- ---- what is assumed
@@ -43,7 +43,7 @@ abbrev pub Allowed : ℕ → World → Event → Type 0
 Allowed L w (send p z) = Unit
 Allowed L w (copy i) = (i < length (w .sent)) × (length (w .sent) ≤ i + half L)
 Allowed L w (stray n p) = isDone (K.arrive (w .keeper) n p .answer) ≡ false
-Allowed L w expire = Unit
+Allowed L w (expire n) = Unit
 Allowed L w (confirm n) = Unit
 Allowed L w (status d m final buffer) = (d < 2 ^ 32) × (m < 2 ^ 32)
 Allowed L w deliver = Unit
@@ -126,6 +126,18 @@ CopiesAnswered L first w =
     → Answered (isOpen (w .fates) i) (ltb i base) (eqb (i + half L) base) (length (arrival (w .fates) i .lost) - length (w .fates .lost))
     (K.arrive (w .keeper) (numberOf L first i) (getD (w .sent) i 0) .answer)
 
+-- what an expiry is answered, by how many our rule declares lost by it: so many, or where there are none a refusal
+abbrev pub Expired : ℕ → Outcome ℕ → Type 0
+Expired zero a = isDone a ≡ false
+Expired (suc c) a = a ≡ done (suc c)
+
+-- until the secondary has built a frame with Final each expiry is answered so, whatever its mark; where there is something to declare 14 never stands
+-- in the way
+abbrev pub ExpiriesAnswered : ℕ → ℕ → World → Type 0
+ExpiriesAnswered L first w =
+    hadFinal (w .built) ≡ false → (n : ℕ)
+    → Expired (length (expiry (w .fates) (markOf L first n (w .fates)) .lost) - length (w .fates .lost)) (K.expire (w .keeper) n .answer)
+
 -- "Final closes this end": the secondary is closed exactly if it has built a frame with Final, and the master exactly if it has accepted one
 pub record FinalCloses (secondary-closed master-closed : Bool) (built : List Built) (delivered : ℕ) : Type 0 where
   pub secondary : secondary-closed ≡ hadFinal built
@@ -137,6 +149,7 @@ pub record Kept (L first : ℕ) (w : World) : Type 0 where
   pub accepted : Accepts w (inFlight w)
   pub freed-exactly : FreedExactly L w
   pub copies-answered : CopiesAnswered L first w
+  pub expiries-answered : ExpiriesAnswered L first w
   pub final-closes : FinalCloses (w .keeper .closed) (w .ledger .closed) (w .built) (w .delivered)
 
 -- ---- the statement

@@ -1,5 +1,5 @@
--- The secondary's machine: what each call answers and leaves, in every state (document 01, "The secondary's rule" and
--- "Refusal numbers"). Numbers are on their circles; distances are forward from base. Every definition is total.
+-- The secondary's machine: what each call answers and leaves, in every state (document 01, "The secondary's rule" and "Refusal numbers"; document
+-- 02, One and Six). Numbers are on their circles; distances are forward from base. Every definition is total.
 --
 -- What these mean on packet indexes that never roll over is proved apart (KeeperMeaning.antt): base is the lowest open
 -- number, the runs are the maximal runs of lost and unreported numbers, the records stand in sending order.
@@ -15,7 +15,7 @@ use Rattle.basics.specs.Basics.{if_then_else_, _and_, _or_, Outcome, done, refu
 use Rattle.frame_layout.specs.Frames.{Range, Status, Written, mostRanges, startsOf, writeStatus}
 use Rattle.bearer.specs.Bearer.{window, mostRuns, mostRecords, After, refusing, answering}
 use Rattle.circle.specs.Lengths.{isLength, isLong, modulusOf, half, pdcps, pdcpBefore}
-use Rattle.bearer.specs.Losses.{before, floorBehind, placeIn, bearsBefore, topOf, offsets, aboveBase, Gap, lostBelow, sizeOf, lowest, raisedBase, newRuns, withRuns, goesBefore}
+use Rattle.bearer.specs.Losses.{before, aheadOf, floorBehind, placeIn, bearsBefore, isBeyond, offsets, aboveBase, Gap, lostBelow, sizeOf, lowest, raisedBase, newRuns, withRuns, goesBefore}
 
 -- a packet that arrived: its two numbers, and whether the handset has it
 pub record Record : Type 0 where
@@ -126,9 +126,9 @@ givenUp k l = lostBelow (modulusOf (k .bits)) (k .base) (held k) l
 abbrev pub runsAfter : Keeper → ℕ → List Range
 runsAfter k l = withRuns (modulusOf (k .bits)) (k .runs) (newRuns (modulusOf (k .bits)) (k .base) (held k) l)
 
--- the base when all below the distance l is given up, and the number at the distance top has a record
-abbrev pub baseAfter : Keeper → ℕ → ℕ → ℕ
-baseAfter k l top = raisedBase (modulusOf (k .bits)) (k .base) (above k) l top
+-- the base when that is given up
+abbrev pub baseAfter : Keeper → ℕ → ℕ
+baseAfter k l = (k .base + lowest l (above k)) % modulusOf (k .bits)
 
 -- ---- arrival
 
@@ -189,18 +189,28 @@ arrive k n p =
 
 -- ---- expiry
 
--- by how far the highest accepted is forward from base: 17, 14, or how many became lost
-abbrev pub expireBelow : Keeper → ℕ → After Keeper ℕ
-expireBelow k top =
-    if eqb top 0 then refusing 17 k else
-    if ltb mostRuns (length (runsAfter k top)) then refusing 14 k else
-    answering (sizeOf (givenUp k top)) (k with-base baseAfter k top top with-runs runsAfter k top)
+-- the mark is beyond the highest accepted: it doesn't lie before base, and is beyond the last record, which counts only at or past base
+abbrev pub markBeyond : Keeper → ℕ → Bool
+markBeyond k n = not (before (modulusOf (k .bits)) (k .base) n) and isBeyond (modulusOf (k .bits)) (k .base) (held k) n
 
--- expiry: 9, and then by the highest accepted, which counts only at or past base
-abbrev pub expire : Keeper → After Keeper ℕ
-expire k =
+-- no open number precedes the mark: it doesn't lie ahead of base, which is the lowest one
+abbrev pub nonePrecedes : Keeper → ℕ → Bool
+nonePrecedes k n = not (aheadOf (modulusOf (k .bits)) (k .base) n)
+
+-- what is open below the distance d expires: 14, or how many became lost
+abbrev pub expireBelow : Keeper → ℕ → After Keeper ℕ
+expireBelow k d =
+    if ltb mostRuns (length (runsAfter k d)) then refusing 14 k else
+    answering (sizeOf (givenUp k d)) (k with-base baseAfter k d with-runs runsAfter k d)
+
+-- expiry of what is open before a mark: 9, 10, 19, 17, and then below its distance
+abbrev pub expire : Keeper → ℕ → After Keeper ℕ
+expire k n =
     if k .closed then refusing 9 k else
-    expireBelow k (topOf (modulusOf (k .bits)) (k .base) (held k))
+    if leb (modulusOf (k .bits)) n then refusing 10 k else
+    if markBeyond k n then refusing 19 k else
+    if nonePrecedes k n then refusing 17 k else
+    expireBelow k (forward (modulusOf (k .bits)) (k .base) n)
 
 -- ---- confirm
 

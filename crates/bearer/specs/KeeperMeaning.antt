@@ -1,7 +1,7 @@
 -- What the secondary's machine means: every state that calls reach from open is as document 01 says, on packet indexes that
--- never roll over (the written rule: Rule.antt and Account.antt). The statements are `KeeperMeans`, `ArrivalsCount`, `ExpiriesCount` and
--- `StatusesSay`; they are proved in proofs/Secondary/KeeperMeans.antt, and `RunsMaximal` of Account.antt in proofs/Secondary/RunsIn.antt. Which
--- calls are refused: Refusals.antt.
+-- never roll over (the written rule: Rule.antt and Account.antt). The statements are `KeeperMeans`, `ArrivalsCount`, `ExpiriesCount`, `MarksLie`,
+-- `MarksKept` and `StatusesSay`; they are proved in proofs/Secondary/KeeperMeans.antt and MarkOf.antt, and `RunsMaximal` of Account.antt in
+-- proofs/Secondary/RunsIn.antt. Which calls are refused: Refusals.antt.
 -- Assumes nothing.
 use mathlib.Core.Path.{_≡_}
 use mathlib.Core.Bool.{Bool, true, false}
@@ -9,12 +9,12 @@ use mathlib.Core.List.{List, _++_, map}
 use Prim.Native.Nat.{ℕ, _+_, _≤_, _<_}
 use lib.ListN.{length, drop}
 use Rattle.basics.specs.Basics.{done}
-use Rattle.circle.specs.Lengths.{half}
+use Rattle.circle.specs.Lengths.{modulusOf, half}
 use Rattle.frame_layout.specs.Frames.{statusOctets}
 use Rattle.bearer.specs.Losses.{Gap}
 use Rattle.bearer.specs.Keeper.{Keeper, Record, openKeeper, arrive, expire, confirm, status}
-use Rattle.bearer.specs.Rule.{isIn, farBelow, Lowest, arrival, expiry}
-use Rattle.bearer.specs.Packets.{numberOf, forwardFrom, Rising, In, Each}
+use Rattle.bearer.specs.Rule.{Fates, isIn, farBelow, Lowest, highest, arrival, expiry}
+use Rattle.bearer.specs.Packets.{numberOf, forwardFrom, markOf, Rising, In, Each}
 use Rattle.bearer.specs.Account.{Held, Account, begun, indexes, runAt, listed, arriving, expiring, confirming, reporting, statusOf}
 
 -- the record of a packet
@@ -44,8 +44,9 @@ pub data Reached (L first f : ℕ) : Keeper → Account → Type 0 where
   -- numbers arrived: those of the packet that the X2-U number names
   arrived : {k : Keeper} {a : Account} (n p c base : ℕ) → Reached L first f k a → Lowest (a .fates) base → arrive k n p .answer ≡ done c
       → Reached L first f (arrive k n p .state) (arriving a (packetAt L first base n) p)
-  -- gaps expired
-  expired : {k : Keeper} {a : Account} (c : ℕ) → Reached L first f k a → expire k .answer ≡ done c → Reached L first f (expire k .state) (expiring a)
+  -- gaps expired: those before the packet that the mark names
+  expired : {k : Keeper} {a : Account} (n c : ℕ) → Reached L first f k a → expire k n .answer ≡ done c
+      → Reached L first f (expire k n .state) (expiring a (markOf L first n (a .fates)))
   -- a number was confirmed: that of a packet with a record
   confirmed : {k : Keeper} {a : Account} (n i : ℕ) → Reached L first f k a → In i (indexes (a .records)) → numberOf L first i ≡ n
       → confirm k n .answer ≡ done tt → Reached L first f (confirm k n .state) (confirming a i)
@@ -97,8 +98,21 @@ ArrivalsCount =
 -- and so does an accepted expiry
 abbrev pub ExpiriesCount : Type 0
 ExpiriesCount =
-    (L first f : ℕ) (k : Keeper) (a : Account) → Reached L first f k a → (c : ℕ) → expire k .answer ≡ done c
-    → length (expiry (a .fates) .lost) ≡ length (a .fates .lost) + c
+    (L first f : ℕ) (k : Keeper) (a : Account) → Reached L first f k a → (n c : ℕ) → expire k n .answer ≡ done c
+    → length (expiry (a .fates) (markOf L first n (a .fates)) .lost) ≡ length (a .fates .lost) + c
+
+-- "A mark M/2 or more forward from base lies behind it, and no open number precedes it.": base is the lowest one, and the packet so named is not
+-- past it. Any other mark names the packet as far past base, unless that is beyond the highest accepted.
+abbrev pub MarksLie : Type 0
+MarksLie =
+    (L first f : ℕ) (k : Keeper) (a : Account) → Reached L first f k a → (base n : ℕ) → Lowest (a .fates) base → n < modulusOf L
+    → (half L ≤ forwardFrom L first base n → markOf L first n (a .fates) ≤ base)
+    × (forwardFrom L first base n < half L → packetAt L first base n ≤ highest (a .fates .received) → markOf L first n (a .fates) ≡ packetAt L first base n)
+
+-- the number of an accepted packet, kept as a mark, names that packet as long as the highest accepted is less than M past it
+abbrev pub MarksKept : Type 0
+MarksKept =
+    (L first : ℕ) (r : Fates) (i : ℕ) → In i (r .received) → highest (r .received) < i + modulusOf L → markOf L first (numberOf L first i) r ≡ i
 
 -- an accepted status answers its frame's length, and leaves the frame that says what the account says at the front of the buffer, whose other
 -- octets stay

@@ -67,15 +67,11 @@ abbrev pub bearsBefore : List ℕ → ℕ → ℕ → Bool
 bearsBefore ns n zero = false
 bearsBefore ns n (suc i) = eqb (getD ns i 0) n
 
--- how far a number that doesn't lie before base is past it; 0 for one that does
-abbrev pub farPast : ℕ → ℕ → ℕ → ℕ
-farPast M base n = if before M base n then 0 else forward M base n
-
--- how far the last number of a list is past base; 0 for none, or for one before base
-abbrev pub topOf : ℕ → ℕ → List ℕ → ℕ
-topOf M base [] = 0
-topOf M base (n ∷ []) = farPast M base n
-topOf M base (n ∷ m ∷ ns) = topOf M base (m ∷ ns)
+-- n lies beyond the last number of a list; and so it does where that lies before base, or where there is none
+abbrev pub isBeyond : ℕ → ℕ → List ℕ → ℕ → Bool
+isBeyond M base [] n = true
+isBeyond M base (m ∷ []) n = before M base m or aheadOf M m n
+isBeyond M base (m ∷ l ∷ ls) n = isBeyond M base (l ∷ ls) n
 
 -- how far numbers are forward from base
 abbrev pub offsets : ℕ → ℕ → List ℕ → List ℕ

@@ -5,12 +5,14 @@ use mathlib.Core.Path.{_≡_}
 use mathlib.Core.Bool.{true}
 use mathlib.Core.List.{List, [], _∷_, _++_, map}
 use Prim.Native.Nat.{ℕ, zero, suc, _+_, _-_, _%_, _^_, _<_}
+use lib.Dec.{eqb}
+use Rattle.basics.specs.Basics.{if_then_else_}
 use Rattle.circle.specs.Circle.{forward}
 use Rattle.circle.specs.Sides.{Side, lies}
 use Rattle.circle.specs.Lengths.{modulusOf}
 use Rattle.frame_layout.specs.Frames.{Range}
 use Rattle.bearer.specs.Ledger as G
-use Rattle.bearer.specs.Rule.{isIn}
+use Rattle.bearer.specs.Rule.{Fates, isIn, highest}
 
 -- ---- lists of packets
 
@@ -43,6 +45,16 @@ numberOf L first i = (first + i) % modulusOf L
 -- f - 1 modulo 2^L, worked without going below zero; written here again on purpose: an edit of the machines' must not move the rule
 abbrev pub oneBefore : ℕ → ℕ → ℕ
 oneBefore L f = (f + (2 ^ L - 1)) % 2 ^ L
+
+-- of the packets through one, the latest that bears a number; 0, before which there is no packet, where none does
+abbrev pub latestThrough : ℕ → ℕ → ℕ → ℕ → ℕ
+latestThrough L first n zero = 0
+latestThrough L first n (suc i) = if eqb (numberOf L first (suc i)) n then suc i else latestThrough L first n i
+
+-- the packet that a mark names: of those through the highest accepted, the latest that bears it. So the number of an accepted packet, "the highest
+-- number accepted when the host's gap timer started", names that packet for nearly a turn (`MarksKept` of KeeperMeaning.antt)
+abbrev pub markOf : ℕ → ℕ → ℕ → Fates → ℕ
+markOf L first n r = latestThrough L first n (highest (r .received))
 
 -- forward from a packet's number to another number
 abbrev pub forwardFrom : ℕ → ℕ → ℕ → ℕ → ℕ

@@ -25,8 +25,8 @@ use Rattle.frame_layout.specs.Trips.{AreOctets}
 use Rattle.bearer.specs.Bearer.{Keeps}
 use Rattle.bearer.specs.Keeper as K
 use Rattle.bearer.specs.Ledger as G
-use Rattle.bearer.specs.Rule.{Fates, isOpen, Lowest, highest, arrival, expiry}
-use Rattle.bearer.specs.Packets.{numberOf, forwardFrom, liesFrom, packets, In, Rising, Each, inRanges}
+use Rattle.bearer.specs.Rule.{Fates, isIn, isOpen, Lowest, highest, arrival, expiry}
+use Rattle.bearer.specs.Packets.{numberOf, forwardFrom, markOf, liesFrom, packets, In, Rising, Each, inRanges}
 use Rattle.bearer.specs.Account.{Held, Account, indexes, runsIn, untold, listed, statusOf}
 use Rattle.bearer.specs.KeeperMeaning.{Reached, packetAt}
 use Rattle.bearer.specs.LedgerMeaning.{Books, lastSent, waitingIn, lostIn, LedgerReached}
@@ -78,9 +78,19 @@ NotToConfirm L first a base n =
     ⊎ Some (λ (h : Held). Bears L first n h × (base ≤ h .index)) (a .records)
     ⊎ Some (λ (h : Held). Bears L first n h × (h .confirmed ≡ true)) (a .records)
 
--- 17: "expiry: no open number below the highest accepted"
-abbrev pub NoneToExpire : Fates → Type 0
-NoneToExpire r = (i : ℕ) → i < highest (r .received) → isOpen r i ≡ false
+-- "nothing at or past base is accepted"
+abbrev pub NoneAccepted : Fates → ℕ → Type 0
+NoneAccepted r base = (i : ℕ) → base ≤ i → isIn i (r .received) ≡ false
+
+-- 19: "for a mark less than M/2 forward from base and beyond the highest accepted, or so placed when nothing at or past base is accepted"
+-- (request Six)
+abbrev pub MarkBeyond : ℕ → ℕ → Fates → ℕ → ℕ → Type 0
+MarkBeyond L first r base n =
+    (forwardFrom L first base n < half L) × ((highest (r .received) < packetAt L first base n) ⊎ NoneAccepted r base)
+
+-- 17: "when no open number precedes the mark"
+abbrev pub NoneToExpire : Fates → ℕ → Type 0
+NoneToExpire r mark = (i : ℕ) → i < mark → isOpen r i ≡ false
 
 -- "Arrival: 9, 10, 18, 11, 12, 13, 14, 15." as request One leaves it, "18 for an opposite arrival, after 10 and before 11, which is then given
 -- only above M/2": 18 for one opposite base, 11 for one behind it
@@ -96,12 +106,15 @@ arrivalRefusals L first a base n p =
     ∷ (15 when (512 ≤ length (a .records)))
     ∷ []
 
--- "Expiry: 9, 17, 14."
-abbrev pub expiryRefusals : Account → List Refusal
-expiryRefusals a =
+-- "Refusals, in order: 9; 10 for a mark of M or more; 19 ..; 17 ..; 14." (request Six)
+abbrev pub expiryRefusals : ℕ → ℕ → Account → ℕ → ℕ → List Refusal
+expiryRefusals L first a base n =
+    let mark : ℕ = markOf L first n (a .fates) in
     (9 when (a .final ≡ true))
-    ∷ (17 when NoneToExpire (a .fates))
-    ∷ (14 when TooManyRuns a (expiry (a .fates)))
+    ∷ (10 when (modulusOf L ≤ n))
+    ∷ (19 when MarkBeyond L first (a .fates) base n)
+    ∷ (17 when NoneToExpire (a .fates) mark)
+    ∷ (14 when TooManyRuns a (expiry (a .fates) mark))
     ∷ []
 
 -- "Confirm: 9, 10, 16."
@@ -184,7 +197,7 @@ takeRefusals b waiting lost = (38 when NothingToTake b waiting lost) ∷ []
 -- each call on a secondary
 pub record SecondaryKeeps (k : K.Keeper) : Type 0 where
   pub arrivals : (n p : ℕ) → Keeps k (K.arrive k n p)
-  pub expiries : Keeps k (K.expire k)
+  pub expiries : (n : ℕ) → Keeps k (K.expire k n)
   pub confirms : (n : ℕ) → Keeps k (K.confirm k n)
   pub statuses : (d m : ℕ) (final : Bool) (buffer : List ℕ) → isDone (K.status k d m final buffer .answer) ≡ false
       → (K.status k d m final buffer .state ≡ k) × (K.status k d m final buffer .buffer ≡ buffer)
@@ -208,7 +221,7 @@ OpensGiven = (L first f : ℕ) → Given (openRefusals L first f) (K.openKeeper 
 -- each call on a secondary that calls reach
 pub record CallsGiven (L first : ℕ) (k : K.Keeper) (a : Account) (base : ℕ) : Type 0 where
   pub arrivals : (n p : ℕ) → Given (arrivalRefusals L first a base n p) (K.arrive k n p .answer)
-  pub expiries : Given (expiryRefusals a) (K.expire k .answer)
+  pub expiries : (n : ℕ) → Given (expiryRefusals L first a base n) (K.expire k n .answer)
   pub confirms : (n : ℕ) → Given (confirmRefusals L first a base n) (K.confirm k n .answer)
   pub statuses : (d m : ℕ) (final : Bool) (buffer : List ℕ) → Given (statusRefusals L first a d m final buffer) (K.status k d m final buffer .answer)
 

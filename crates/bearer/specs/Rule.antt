@@ -1,5 +1,5 @@
--- The secondary's rule in document 01's own sentences, on packet indexes: packet 0 is the first one sent, 1 the next, and
--- indexes never roll over. No definition of the machines is used here.
+-- The secondary's rule in document 01's own sentences, as document 02's requests changed them, on packet indexes: packet 0 is the first one
+-- sent, 1 the next, and indexes never roll over. No definition of the machines is used here.
 -- Assumes nothing.
 use mathlib.Core.Path.{_≡_}
 use mathlib.Core.Bool.{Bool, true, false, not}
@@ -67,6 +67,6 @@ abbrev pub highest : List ℕ → ℕ
 highest [] = 0
 highest (i ∷ is) = max i (highest is)
 
--- "Expiry declares lost each open number below the highest accepted one."
-abbrev pub expiry : Fates → Fates
-expiry r = declare r (highest (r .received))
+-- "Expiry now takes a mark, .. and declares lost only open numbers before it." (document 02, Six): the mark is a packet, and itself spared
+abbrev pub expiry : Fates → ℕ → Fates
+expiry r mark = declare r mark

@@ -1,6 +1,6 @@
 -- Both ends of a bearer joined over a backhaul: what may happen, and what each event does to both ends and to the account of it that
 -- demand 3 speaks of (Demand3.antt). The two ends are the very machines that the engines' contracts cite (Keeper.antt, Ledger.antt), at
--- document 01's constants; the written rule is Rule.antt.
+-- document 01's constants; the written rule is Rule.antt, and Packets.antt says which packet a mark names.
 -- Assumes nothing.
 use mathlib.Core.Bool.{Bool, false}
 use mathlib.Core.List.{List, [], _∷_, _++_}
@@ -13,7 +13,7 @@ use Rattle.bearer.specs.Bearer.{After}
 use Rattle.bearer.specs.Keeper as K
 use Rattle.bearer.specs.Ledger as G
 use Rattle.bearer.specs.Rule.{Fates, allOpen, isIn, arrival, expiry}
-use Rattle.bearer.specs.Packets.{numberOf, packets}
+use Rattle.bearer.specs.Packets.{numberOf, markOf, packets}
 
 -- ---- the calls and the backhaul
 
@@ -25,8 +25,8 @@ pub data Event : Type 0 where
   copy : ℕ → Event
   -- the secondary is handed numbers that are no packet's
   stray : ℕ → ℕ → Event
-  -- the gaps of the secondary expire
-  expire : Event
+  -- the gaps of the secondary before a mark expire: any number at all
+  expire : ℕ → Event
   -- a number is confirmed
   confirm : ℕ → Event
   -- the secondary is asked for a status: desired size, minimum size, Final, and the buffer lent
@@ -201,7 +201,7 @@ abbrev pub step : ℕ → ℕ → World → Event → World
 step L first w (send p z) = afterSend w p (G.send (w .ledger) p z (length (w .sent)))
 step L first w (copy i) = atSecondary w (K.arrive (w .keeper) (numberOf L first i) (getD (w .sent) i 0) .state) (arrival (w .fates) i)
 step L first w (stray n p) = atSecondary w (K.arrive (w .keeper) n p .state) (w .fates)
-step L first w expire = atSecondary w (K.expire (w .keeper) .state) (expiry (w .fates))
+step L first w (expire n) = atSecondary w (K.expire (w .keeper) n .state) (expiry (w .fates) (markOf L first n (w .fates)))
 step L first w (confirm n) = afterConfirm w (latest L first n (w .fates .received)) (K.confirm (w .keeper) n)
 step L first w (status d m final buffer) = afterStatus w (K.status (w .keeper) d m final buffer)
 step L first w deliver = afterDelivery w (inFlight w)

@@ -20,7 +20,7 @@ abbrev pub isAllowed : ℕ → World → Event → Bool
 isAllowed L w (send p z) = true
 isAllowed L w (copy i) = ltb i (length (w .sent)) and leb (length (w .sent)) (i + half L)
 isAllowed L w (stray n p) = not (isDone (K.arrive (w .keeper) n p .answer))
-isAllowed L w expire = true
+isAllowed L w (expire n) = true
 isAllowed L w (confirm n) = true
 isAllowed L w (status d m final buffer) = ltb d (2 ^ 32) and ltb m (2 ^ 32)
 isAllowed L w deliver = true
@@ -36,7 +36,7 @@ allowed L w (copy i) t =
     let b = and-true (ltb i (length (w .sent))) (leb (length (w .sent)) (i + half L)) t in
     (ltb-true i (length (w .sent)) (b .0), leb-true (length (w .sent)) (i + half L) (b .1))
 allowed L w (stray n p) t = not-true (isDone (K.arrive (w .keeper) n p .answer)) t
-allowed L w expire t = tt
+allowed L w (expire n) t = tt
 allowed L w (confirm n) t = tt
 allowed L w (status d m final buffer) t = let b = and-true (ltb d (2 ^ 32)) (ltb m (2 ^ 32)) t in (ltb-true d (2 ^ 32) (b .0), ltb-true m (2 ^ 32) (b .1))
 allowed L w deliver t = tt

@@ -1,5 +1,5 @@
 -- Demand 3 isn't about nothing: at each L a run that its hypotheses allow, at document 01's constants, with rollovers of both circles, a
--- burst lost, repeats, an overtaking, a status held back, a rest of half the PDCP circle and a Final; and what it frees is what one expects. All is computed.
+-- burst lost, repeats, an overtaking, a packet that the mark of an expiry spares, a status held back, a rest of half the PDCP circle and a Final; and what it frees is what one expects. All is computed.
 -- Assumes nothing.
 use mathlib.Core.Path.{_≡_, refl}
 use mathlib.Core.Bool.{Bool, true, false}
@@ -66,14 +66,16 @@ abbrev asked : Bool → Event
 asked final = status 65536 4096 final (replicate 1018 0)
 
 -- 360 packets are sent. 1 overtakes 0, and each of them comes twice; 2 to 22 are lost in a burst; of the others every second
--- one comes; the rest expires; all that came is confirmed. So 169 runs are listed: a Final is refused, and a status carries 162.
+-- one comes. Marks past the highest accepted, of no number and behind base are refused, and 357, the highest accepted when the gap timer
+-- started, isn't: what is open before it expires. So 358, which lies past the mark and before 359, comes after all. All that came is confirmed.
+-- 168 runs are listed: a Final is refused, and a status carries 162.
 abbrev pub held-back : ℕ → List Event
 held-back L =
     sends L 0 360
     ++ (copy 1 ∷ copy 1 ∷ copy 0 ∷ copy 0 ∷ [])
     ++ map copy (second 23 169)
-    ++ (expire ∷ [])
-    ++ map (λ (i : ℕ). confirm (number L i)) (0 ∷ 1 ∷ second 23 169)
+    ++ (expire (number L 360) ∷ expire (modulusOf L) ∷ expire (number L 1) ∷ expire (number L 357) ∷ copy 358 ∷ [])
+    ++ map (λ (i : ℕ). confirm (number L i)) (0 ∷ 1 ∷ second 23 169 ++ (358 ∷ []))
     ++ (asked true ∷ asked false ∷ deliver ∷ [])
 
 -- A status carries the other runs, and one lost packet is taken. Numbers that are no packet's come to the secondary: one that is M or more, and
@@ -115,25 +117,27 @@ seen-then L w =
     ∷ (w .freed is 0 ∷ 1 ∷ second 23 162)
     -- 346 to 359 wait: the sum is theirs, and is taken away from the desired size
     ∷ (w .ledger .octets ∷ G.keptRoom (w .ledger) ∷ G.room (w .ledger) ∷ [] is 4949 ∷ (65536 - 4949) ∷ (65536 - 4949) ∷ [])
-    -- and 7 runs, and the records of 7 packets though these are confirmed, stay with the secondary
-    ∷ (map (λ (r : Range). r .start) (w .keeper .runs) is map (number L) (second 346 7))
-    ∷ (K.held (w .keeper) is map (number L) (second 347 7))
-    ∷ (map (λ (r : K.Record). bit (r .confirmed)) (w .keeper .records) is replicate 7 1)
+    -- and 6 runs, and the records of 8 packets though these are confirmed, stay with the secondary
+    ∷ (map (λ (r : Range). r .start) (w .keeper .runs) is map (number L) (second 346 6))
+    ∷ (K.held (w .keeper) is map (number L) (second 347 6 ++ (358 ∷ 359 ∷ [])))
+    ∷ (map (λ (r : K.Record). bit (r .confirmed)) (w .keeper .records) is replicate 8 1)
     ∷ []
 
 -- what is seen at the end
 abbrev pub seen-at-end : ℕ → World → List Row
 seen-at-end L w =
     -- 1 came before 0; of their repeats neither counts
-    (drop 170 (w .fates .received) is 0 ∷ 1 ∷ [])
+    (drop 171 (w .fates .received) is 0 ∷ 1 ∷ [])
+    -- 358 came after 359, past the mark
+    ∷ (take 3 (w .fates .received) is 360 ∷ 358 ∷ 359 ∷ [])
     -- the PDCP numbers of the packets rolled over
     ∷ (take 3 (drop 95 (w .sent)) is (pdcps L - 1) ∷ 0 ∷ 1 ∷ [])
     -- the burst and what else didn't come was lost
-    ∷ (w .fates .lost is every 2 21 ++ second 24 168)
+    ∷ (w .fates .lost is every 2 21 ++ second 24 167)
     -- the master has freed what came, and nothing else
-    ∷ (w .freed is 0 ∷ 1 ∷ second 23 169 ++ (360 ∷ []))
-    -- of 361 packets 172 are freed, 2 were taken, and 187 lost ones are held
-    ∷ (length (w .sent) ∷ length (w .freed) ∷ length (w .ledger .entries) ∷ [] is 361 ∷ 172 ∷ 187 ∷ [])
+    ∷ (w .freed is 0 ∷ 1 ∷ second 23 168 ++ (358 ∷ 359 ∷ 360 ∷ []))
+    -- of 361 packets 173 are freed, 2 were taken, and 186 lost ones are held
+    ∷ (length (w .sent) ∷ length (w .freed) ∷ length (w .ledger .entries) ∷ [] is 361 ∷ 173 ∷ 186 ∷ [])
     -- three frames were built and delivered, and both ends are closed
     ∷ (length (w .built) ∷ w .delivered ∷ bit (w .keeper .closed) ∷ bit (w .ledger .closed) ∷ [] is 3 ∷ 3 ∷ 1 ∷ 1 ∷ [])
     -- none waits: there is all the room that was desired

@@ -229,7 +229,7 @@ pub extern "C" fn x2u_keeper_arrive(
     }
 }
 
-// Expiry: how many numbers became lost.
+// Expiry of what is open before a mark: how many numbers became lost.
 #[no_mangle]
 pub extern "C" fn x2u_keeper_expire(
     numbers: &mut keeper::RecordArray,
@@ -238,14 +238,15 @@ pub extern "C" fn x2u_keeper_expire(
     starts: &mut keeper::RunArray,
     ends: &mut keeper::RunArray,
     words: &mut keeper::WordArray,
+    mark: u32,
 ) -> i64
     ensures { λ r. ⌜ leaves r (keeperIn (now (numbers .exit)) (now (pdcps .exit)) (now (marks .exit)) (now (starts .exit)) (now (ends .exit)) (now (words .exit)))
-        ≡ counts (expire (keeperIn (now (numbers .entry)) (now (pdcps .entry)) (now (marks .entry)) (now (starts .entry)) (now (ends .entry)) (now (words .entry)))) ⌝ }
+        ≡ counts (expire (keeperIn (now (numbers .entry)) (now (pdcps .entry)) (now (marks .entry)) (now (starts .entry)) (now (ends .entry)) (now (words .entry))) mark) ⌝ }
     ensures { λ r. ⌜ ((n : ℕ) → r ≡ negsuc n → arrays (now (numbers .exit)) (now (pdcps .exit)) (now (marks .exit)) (now (starts .exit)) (now (ends .exit)) (now (words .exit))
         ≡ arrays (now (numbers .entry)) (now (pdcps .entry)) (now (marks .entry)) (now (starts .entry)) (now (ends .entry)) (now (words .entry))) ⌝ }
     ensures { λ _. ⌜ (Plain (now (words .entry)) (now (marks .entry)) → Plain (now (words .exit)) (now (marks .exit))) ⌝ }
 {
-    match keeper::expire(numbers, pdcps, marks, starts, ends, words) {
+    match keeper::expire(numbers, pdcps, marks, starts, ends, words, mark) {
         keeper::Counted::Lost(n) => value(n),
         keeper::Counted::Refused(n) => refused(n),
     }

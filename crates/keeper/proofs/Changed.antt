@@ -62,12 +62,12 @@ module _ (w : Words) (ns ps cs ss es : List ℕ) where
       ap (answering (plan .lost .numbers)) (stored ns' ps' cs' ss' es' e f ∙ ap₂ (stateOf next) (runs-are (accepts .loses) fronts ss' es' g) h) ∙ sym (accepts .outcome)
 
   -- records and marks stay
-  pub expired : {plan : Plan} → AcceptsExpiry plan state → Fronts w ns state
+  pub expired : (n : ℕ) {plan : Plan} → AcceptsExpiry plan state (expire state n) → Fronts w ns state
       → {words : List ℕ} {next : Words} → words ≡ wordsOf next → next ≡ (w saying-base plan .base saying-runs plan .lost .runs saying-records w .records)
       → (ss' es' : List ℕ)
       → take (plan .lost .runs) (rangesOf ss' es') ≡ withRuns (modulusIn w) (state .runs) (newRuns (modulusIn w) (w .base) (take (heldIn w) ns) (plan .lost .limit))
-      → answering (plan .lost .numbers) (keeperIn ns ps cs ss' es' words) ≡ expire state
-  expired {plan = plan} accepts fronts e f ss' es' g =
+      → answering (plan .lost .numbers) (keeperIn ns ps cs ss' es' words) ≡ expire state n
+  expired n {plan = plan} accepts fronts e f ss' es' g =
       let next = w saying-base plan .base saying-runs plan .lost .runs in
       ap (answering (plan .lost .numbers)) (stored ns ps cs ss' es' e f ∙ ap (λ (rs : List Range). stateOf next rs (state .records)) (runs-are (accepts .loses) fronts ss' es' g))
       ∙ sym (accepts .outcome)

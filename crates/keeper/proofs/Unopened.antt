@@ -20,8 +20,8 @@ arrival-only-9 before after n p r not-open says stays =
     (both .0, stays 9 (both .0))
 
 pub expiry-only-9 : ExpiryOnly9
-expiry-only-9 before after r not-open says stays =
-    let both = read-count _ r (C.the-variants.Refused 9) (stateHeld after) (stateHeld before) says (sym (nine before not-open .expiry)) in
+expiry-only-9 before after n r not-open says stays =
+    let both = read-count _ r (C.the-variants.Refused 9) (stateHeld after) (stateHeld before) says (sym (nine before not-open .expiry n)) in
     (both .0, stays 9 (both .0))
 
 pub confirm-only-9 : ConfirmOnly9

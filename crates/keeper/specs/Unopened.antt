@@ -31,8 +31,8 @@ ArrivalOnly9 = (before after : Arrays) (n p : ℕ) (r : C.Counted) → NeverOpen
 
 -- ... of an expiry
 abbrev pub ExpiryOnly9 : Type 0
-ExpiryOnly9 = (before after : Arrays) (r : C.Counted) → NeverOpened before
-    → countedAs r (stateHeld after) ≡ expire (stateHeld before) → Unchanged C.the-variants.Refused r before after → Only9 C.the-variants.Refused r before after
+ExpiryOnly9 = (before after : Arrays) (n : ℕ) (r : C.Counted) → NeverOpened before
+    → countedAs r (stateHeld after) ≡ expire (stateHeld before) n → Unchanged C.the-variants.Refused r before after → Only9 C.the-variants.Refused r before after
 
 -- ... of a confirm
 abbrev pub ConfirmOnly9 : Type 0

@@ -154,7 +154,7 @@ pub fn arrive(
     }
 }
 
-// Expiry: each open number below the highest accepted one is lost.
+// Expiry: each open number before the mark is lost.
 pub fn expire(
     numbers: &mut RecordArray,
     pdcps: &mut RecordArray,
@@ -162,15 +162,16 @@ pub fn expire(
     starts: &mut RunArray,
     ends: &mut RunArray,
     words: &mut WordArray,
+    mark: u32,
 ) -> Counted
     ensures { λ r. ⌜ countedAs r (keeperIn (now (numbers .exit)) (now (pdcps .exit)) (now (marks .exit)) (now (starts .exit)) (now (ends .exit)) (now (words .exit)))
-        ≡ «expireOf» (keeperIn (now (numbers .entry)) (now (pdcps .entry)) (now (marks .entry)) (now (starts .entry)) (now (ends .entry)) (now (words .entry))) ⌝ }
+        ≡ «expireOf» (keeperIn (now (numbers .entry)) (now (pdcps .entry)) (now (marks .entry)) (now (starts .entry)) (now (ends .entry)) (now (words .entry))) mark ⌝ }
     ensures { λ r. ⌜ ((n : ℕ) → r ≡ Counted.Refused n → arrays (now (numbers .exit)) (now (pdcps .exit)) (now (marks .exit)) (now (starts .exit)) (now (ends .exit)) (now (words .exit))
         ≡ arrays (now (numbers .entry)) (now (pdcps .entry)) (now (marks .entry)) (now (starts .entry)) (now (ends .entry)) (now (words .entry))) ⌝ }
     ensures { λ _. ⌜ (Plain (now (words .entry)) (now (marks .entry)) → Plain (now (words .exit)) (now (marks .exit))) ⌝ }
 {
     let w = read(words);
-    match keeper_judge::judge_expiry(w, numbers, pdcps, marks, starts, ends) {
+    match keeper_judge::judge_expiry(w, numbers, pdcps, marks, starts, ends, mark) {
         Expiry::Refused(n) => Counted::Refused(n),
         Expiry::Accepted(plan) => {
             let lost = plan.lost;

@@ -10,7 +10,7 @@ use Rattle.circle.specs.Lengths.{modulusOf}
 use Rattle.frame_layout.specs.Frames.{Range, endsOf}
 use Rattle.bearer.specs.Bearer.{After, refusing, answering, mostRuns, mostRecords}
 use Rattle.bearer.specs.Losses.{fromBase, lostBelow, sizeOf, newRuns, adjoins, withRuns}
-use Rattle.bearer.specs.Keeper.{Keeper, newRecord, recordsWith, held, runsAfter, arriveOn, arrive, expire, _with-base_, _with-runs_, _with-records_}
+use Rattle.bearer.specs.Keeper.{Keeper, newRecord, recordsWith, held, runsAfter, arriveOn, arrive, expireBelow, expire, _with-base_, _with-runs_, _with-records_}
 use Rattle.keeper_judge.specs.declared.Losses.{Losses}
 use Rattle.keeper_judge.specs.declared.Plan.{Plan}
 use Rattle.keeper_judge.specs.declared.Arrival as A
@@ -76,11 +76,19 @@ JudgesPlace r k n p = ArrivalIs r k n p (arriveOn k n p)
 -- ---- expiry
 
 -- an accepted expiry: the state is the machine's
-pub record AcceptsExpiry (plan : Plan) (k : Keeper) : Type 0 where
+pub record AcceptsExpiry (plan : Plan) (k : Keeper) (o : After Keeper ℕ) : Type 0 where
   pub loses : Loses (plan .lost) k
-  pub outcome : expire k ≡ answering (plan .lost .numbers) (k with-base plan .base with-runs runsAfter k (plan .lost .limit))
+  pub outcome : o ≡ answering (plan .lost .numbers) (k with-base plan .base with-runs runsAfter k (plan .lost .limit))
 
--- a judgement of an expiry is the machine's
-abbrev pub JudgesExpiry : E.Expiry → Keeper → Type 0
-JudgesExpiry (E.the-variants.Refused m) k = expire k ≡ refusing m k
-JudgesExpiry (E.the-variants.Accepted plan) k = AcceptsExpiry plan k
+-- a judgement of an expiry is an outcome of the machine's
+abbrev pub ExpiryIs : E.Expiry → Keeper → After Keeper ℕ → Type 0
+ExpiryIs (E.the-variants.Refused m) k o = o ≡ refusing m k
+ExpiryIs (E.the-variants.Accepted plan) k o = AcceptsExpiry plan k o
+
+-- ... that of the call
+abbrev pub JudgesExpiry : E.Expiry → Keeper → ℕ → Type 0
+JudgesExpiry r k n = ExpiryIs r k (expire k n)
+
+-- ... that of what is open below a distance
+abbrev pub JudgesGaps : E.Expiry → Keeper → ℕ → Type 0
+JudgesGaps r k d = ExpiryIs r k (expireBelow k d)

@@ -4,13 +4,14 @@ ghost use mathlib.Core.Path.{_≡_};
 ghost use mathlib.Core.List.{List};
 ghost use Prim.Native.Nat.{ℕ, _+_, _^_, _≤_, _<_};
 ghost use lib.ListN.{length};
-ghost use Rattle.basics.specs.Basics.{bit};
+ghost use mathlib.Core.Bool.{not};
+ghost use Rattle.basics.specs.Basics.{bit, _and_};
 ghost use Rattle.circle.specs.Lengths.{modulus};
 ghost use Rattle.frame_layout.specs.Frames.{Range, startsOf, endsOf};
-ghost use Rattle.bearer.specs.Losses.{floorBehind, bearsBefore, offsets, raisedBase};
+ghost use Rattle.bearer.specs.Losses.{before, isBeyond, floorBehind, bearsBefore, offsets, raisedBase};
 ghost use Rattle.bearer.specs.Keeper.{Record, numbersOf, limitOf, baseArrived};
 ghost use Rattle.keeper_state.specs.State.{stateOf, stateIn, Fronts};
-ghost use Rattle.keeper_judge.specs.Judgements.{adjoinsLast, noneLost, Losing, Reaches, JudgesArrival, JudgesPlace, JudgesExpiry};
+ghost use Rattle.keeper_judge.specs.Judgements.{adjoinsLast, noneLost, Losing, Reaches, JudgesArrival, JudgesPlace, JudgesExpiry, JudgesGaps};
 use circle::Side;
 use keeper_state::MOST_RECORDS;
 use keeper_state::MOST_RUNS;
@@ -76,7 +77,7 @@ pub fn judge_arrival(
     )
 }
 
-// Expiry: each open number below the highest accepted one is lost.
+// Expiry: each open number before the mark is lost.
 pub fn judge_expiry(
     w: Words,
     numbers: &RecordArray,
@@ -84,16 +85,18 @@ pub fn judge_expiry(
     marks: &RecordArray,
     starts: &RunArray,
     ends: &RunArray,
+    mark: u32,
 ) -> Expiry
-    ensures { λ r. ⌜ JudgesExpiry r (stateIn w (now (numbers .entry)) (now (pdcps .entry)) (now (marks .entry)) (now (starts .entry)) (now (ends .entry))) ⌝ }
+    ensures { λ r. ⌜ JudgesExpiry r (stateIn w (now (numbers .entry)) (now (pdcps .entry)) (now (marks .entry)) (now (starts .entry)) (now (ends .entry))) mark ⌝ }
     ensures { λ r. ⌜ Fronts w (now (numbers .entry)) (stateIn w (now (numbers .entry)) (now (pdcps .entry)) (now (marks .entry)) (now (starts .entry)) (now (ends .entry))) ⌝ }
 {
     let held = keeper_state::held_in(w.records, numbers, pdcps, marks);
     let listed = keeper_state::listed_in(w.runs, starts, ends);
-    judge_below(
+    judge_mark(
         w,
         basics::front_words(numbers, held),
         basics::front_words(ends, listed),
+        mark,
     )
 }
 
@@ -293,28 +296,55 @@ fn base_after(above: &[u32], base: u32, long: bool, limit: u32, top: u32) -> u32
 
 // ---- expiry
 
-// An expiry, by the numbers held and the ends listed: 9, 17, 14, or what it changes.
-fn judge_below(w: Words, numbers: &[u32], ends: &[u32]) -> Expiry
+// An expiry, by the numbers held and the ends listed: 9, 10, 19, 17, or by the gaps before the mark.
+fn judge_mark(w: Words, numbers: &[u32], ends: &[u32], mark: u32) -> Expiry
     ensures { λ r. ⌜ ((runs : List Range) (records : List Record) → numbersOf records ≡ now (numbers .entry) → endsOf runs ≡ now (ends .entry)
-        → JudgesExpiry r (stateOf w runs records)) ⌝ }
+        → JudgesExpiry r (stateOf w runs records) mark) ⌝ }
 {
     if !keeper_state::is_open(w.opened) {
         return Expiry::Refused(refusal::CLOSED);
     }
-    let long = circle::is_long(w.bits);
     let base = w.base;
-    let top = keeper_loss::top_of(numbers, base, long);
-    if top == 0 {
+    let long = circle::is_long(w.bits);
+    if circle::modulus(long) <= mark {
+        return Expiry::Refused(refusal::NUMBER);
+    }
+    if mark_beyond(numbers, base, long, mark) {
+        return Expiry::Refused(refusal::MARK);
+    }
+    if !keeper_loss::is_ahead(base, mark, long, false) {
         return Expiry::Refused(refusal::NO_GAP);
     }
-    let lost = lost_below(numbers, ends, base, long, top);
+    let distance = circle::distance(base, mark, long);
+    judge_gaps(w, numbers, ends, distance)
+}
+
+// Whether a mark is beyond the highest accepted: it doesn't lie before base, and is beyond the last of the numbers held.
+fn mark_beyond(numbers: &[u32], base: u32, long: bool, mark: u32) -> bool
+    ensures { λ r. ⌜ r ≡ (not (before (modulus long) base mark) and isBeyond (modulus long) base (now (numbers .entry)) mark) ⌝ }
+{
+    if keeper_loss::is_before(base, mark, long) {
+        return false;
+    }
+    keeper_loss::is_beyond(numbers, base, long, mark)
+}
+
+// An expiry by the gaps below a distance from base: 14, or what it changes.
+fn judge_gaps(w: Words, numbers: &[u32], ends: &[u32], distance: u32) -> Expiry
+    requires { ⌜ 0 < distance ⌝ }
+    ensures { λ r. ⌜ ((runs : List Range) (records : List Record) → numbersOf records ≡ now (numbers .entry) → endsOf runs ≡ now (ends .entry)
+        → JudgesGaps r (stateOf w runs records) distance) ⌝ }
+{
+    let base = w.base;
+    let long = circle::is_long(w.bits);
+    let lost = lost_below(numbers, ends, base, long, distance);
     if MOST_RUNS < lost.runs {
         return Expiry::Refused(refusal::RUNS);
     }
     let from = lost.from;
-    let base = base_after(&numbers[from..], base, long, top, top);
+    let open = keeper_loss::lowest(&numbers[from..], base, long, distance);
     Expiry::Accepted(Plan {
-        base: base,
+        base: circle::onward(base, open, long),
         lost: lost,
     })
 }

@@ -11,9 +11,9 @@ use lib.ListN.{length, drop, getD}
 use lib.Seq.{drop-cons}
 use borrow.Author.Tests.{eq-eqb, ne-eqb}
 use Rattle.circle.specs.Circle.{forward, forward-below}
-use Rattle.basics.specs.Basics.{if_then_else_, all}
+use Rattle.basics.specs.Basics.{if_then_else_, _or_, all}
 use Rattle.basics.proofs.Choices.{and-no}
-use Rattle.bearer.specs.Losses.{before, farBehind, farPast, frontOf, firstBehind, topOf}
+use Rattle.bearer.specs.Losses.{before, farBehind, aheadOf, frontOf, firstBehind, isBeyond}
 use Rattle.bearer.specs.Keeper.{indexOf}
 use Rattle.bearer.proofs.Lists.Mapped.{front-none}
 
@@ -49,16 +49,15 @@ module _ (M base : ℕ) where
   first-here [] h = absurd (omega arith)
   first-here (n ∷ ns) h = refl
 
-  pub top-none : (ns : List ℕ) → length ns ≡ 0 → topOf M base ns ≡ 0
-  top-none [] e = refl
-  top-none (n ∷ ns) e = absurd (omega arith)
+  pub beyond-none : (ns : List ℕ) (n : ℕ) → length ns ≡ 0 → isBeyond M base ns n ≡ true
+  beyond-none [] n e = refl
+  beyond-none (m ∷ ns) n e = absurd (omega arith)
 
-  pub top-last : (ns : List ℕ) (i : ℕ) → i + 1 ≡ length ns
-      → topOf M base ns ≡ farPast M base (getD ns i 0)
-  top-last [] i e = absurd (omega arith)
-  top-last (n ∷ []) i e = let z : i ≡ 0 = omega arith in rw z
-  top-last (n ∷ m ∷ ns) zero e = absurd (omega arith)
-  top-last (n ∷ m ∷ ns) (suc i) e = top-last (m ∷ ns) i (omega arith)
+  pub beyond-last : (ns : List ℕ) (n i : ℕ) → i + 1 ≡ length ns → isBeyond M base ns n ≡ (before M base (getD ns i 0) or aheadOf M (getD ns i 0) n)
+  beyond-last [] n i e = absurd (omega arith)
+  beyond-last (m ∷ []) n i e = let z : i ≡ 0 = omega arith in rw z
+  beyond-last (m ∷ l ∷ ls) n zero e = absurd (omega arith)
+  beyond-last (m ∷ l ∷ ls) n (suc i) e = beyond-last (l ∷ ls) n i (omega arith)
 
 -- ---- where a number first stands
 
@@ -69,7 +68,7 @@ module _ (n : ℕ) (ns : List ℕ) (i : ℕ) (l : i < length ns) where
   pub index-later : (getD ns i 0 ≡ n → ⊥) → indexOf n (drop i ns) ≡ suc (indexOf n (drop (i + 1) ns))
   index-later h = rw (drop-cons ns i 0 l, add-one i, ne-eqb (getD ns i 0) n h)
 
--- ---- how far the ends can be
+-- ---- how far the first number can be
 
 module _ (M base : ℕ) (pos : 0 < M) where
   pub first-below : (ns : List ℕ) → firstBehind M base ns < M
@@ -79,12 +78,3 @@ module _ (M base : ℕ) (pos : 0 < M) where
       by-test : (t : Bool) → (if t then forward M n base else 0) < M
       by-test true = forward-below M pos n base
       by-test false = pos
-
-  pub top-below : (ns : List ℕ) → topOf M base ns < M
-  top-below [] = pos
-  top-below (n ∷ []) = by-test (before M base n)
-    where
-      by-test : (t : Bool) → (if t then 0 else forward M base n) < M
-      by-test true = pos
-      by-test false = forward-below M pos base n
-  top-below (n ∷ m ∷ ns) = top-below (m ∷ ns)

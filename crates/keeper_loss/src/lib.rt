@@ -6,7 +6,7 @@ ghost use lib.ListN.{length, set};
 ghost use lib.Seq.{sets};
 ghost use Rattle.circle.specs.Lengths.{modulus as «modulusOf»};
 ghost use Rattle.frame_layout.specs.Frames.{startsOf, endsOf};
-ghost use Rattle.bearer.specs.Losses.{before, farBehind, frontOf, firstBehind, topOf, offsets, outside as «outsideOf», gap, gaps as «gapsOf», lowest as «lowestOf», runsOf};
+ghost use Rattle.bearer.specs.Losses.{before, farBehind, frontOf, firstBehind, isBeyond, offsets, outside as «outsideOf», gap, gaps as «gapsOf», lowest as «lowestOf», runsOf};
 ghost use Rattle.bearer.specs.Keeper.{indexOf};
 ghost use Rattle.keeper_loss.specs.Tally.{told, tallied, raisedBy, gapEnd, pastOf};
 ghost use Rattle.keeper_loss.specs.Fronts.{aheadOr};
@@ -22,7 +22,7 @@ pub struct GivenUp {
 // ---- where a number lies
 
 // Whether a number lies ahead of another, or is the same, where that counts too.
-fn is_ahead(from: u32, number: u32, long: bool, same: bool) -> bool
+pub fn is_ahead(from: u32, number: u32, long: bool, same: bool) -> bool
     ensures { λ r. ⌜ r ≡ aheadOr same («modulusOf» long) from number ⌝ }
 {
     let side = circle::lies(from, number, long);
@@ -78,18 +78,18 @@ pub fn first_behind(numbers: &[u32], base: u32, long: bool) -> u32
     behind(base, numbers[0], long)
 }
 
-// How far the last number is forward from base; 0 for none, or for one before base.
-pub fn top_of(numbers: &[u32], base: u32, long: bool) -> u32
-    ensures { λ r. ⌜ r ≡ topOf («modulusOf» long) base (now (numbers .entry)) ⌝ }
+// Whether a number lies beyond the last of others; and so it does where that lies before base, or where there is none.
+pub fn is_beyond(numbers: &[u32], base: u32, long: bool, number: u32) -> bool
+    ensures { λ r. ⌜ r ≡ isBeyond («modulusOf» long) base (now (numbers .entry)) number ⌝ }
 {
     if numbers.len() == 0 {
-        return 0;
+        return true;
     }
     let last = numbers[numbers.len() - 1];
     if is_before(base, last, long) {
-        return 0;
+        return true;
     }
-    circle::distance(base, last, long)
+    is_ahead(last, number, long, false)
 }
 
 // Where a number first stands; the length for nowhere.

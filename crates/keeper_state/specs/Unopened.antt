@@ -21,7 +21,7 @@ ZeroIsUnopened = (w : Words) → w .opened ≡ 0 → Unopened w
 -- every call but open answers 9, and leaves the end and the buffer as they are
 pub record Answers9 (k : Keeper) : Type 0 where
   pub arrival : (n p : ℕ) → arrive k n p ≡ refusing 9 k
-  pub expiry : expire k ≡ refusing 9 k
+  pub expiry : (n : ℕ) → expire k n ≡ refusing 9 k
   pub confirming : (n : ℕ) → confirm k n ≡ refusing 9 k
   pub report : (desired minimum : ℕ) (final : Bool) (d : List ℕ) → status k desired minimum final d ≡ unreported 9 k d
 

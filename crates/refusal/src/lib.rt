@@ -34,9 +34,11 @@ pub const RECORDS: u32 = 15; // 512 records are held
 
 pub const NO_RECORD: u32 = 16; // no record of that number, or not before base, or already confirmed
 
-pub const NO_GAP: u32 = 17; // no open number below the highest accepted
+pub const NO_GAP: u32 = 17; // no open number before the mark
 
 pub const OPPOSITE: u32 = 18; // forward from base to the number is exactly M/2
+
+pub const MARK: u32 = 19; // a mark less than M/2 forward from base and beyond the highest accepted, or so placed when nothing at or past base is accepted
 
 pub const ROOM: u32 = 20; // buffer shorter than the frame
 

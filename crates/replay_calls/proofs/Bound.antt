@@ -49,8 +49,8 @@ word-most : (w : List ℕ) (o : Option (List ℕ)) → 7 < length w → callWith
 word-most w none h = refl
 word-most w (some []) h =
     rw
-    (not-same w (ascii "expire") (omega arith), not-same w (ascii "take") (omega arith), not-same w (ascii "room") (omega arith), not-same w (ascii "keeper") (omega arith), not-same w (ascii "ledger") (omega arith))
-word-most w (some (a ∷ [])) h = rw (not-same w (ascii "confirm") (omega arith))
+    (not-same w (ascii "take") (omega arith), not-same w (ascii "room") (omega arith), not-same w (ascii "keeper") (omega arith), not-same w (ascii "ledger") (omega arith))
+word-most w (some (a ∷ [])) h = rw (not-same w (ascii "expire") (omega arith), not-same w (ascii "confirm") (omega arith))
 word-most w (some (a ∷ b ∷ [])) h = rw (not-same w (ascii "arrive") (omega arith), not-same w (ascii "send") (omega arith))
 word-most w (some (a ∷ b ∷ c ∷ [])) h = rw (not-same w (ascii "open") (omega arith))
 word-most w (some (a ∷ b ∷ c ∷ d ∷ [])) h = rw (not-same w (ascii "status") (omega arith))

@@ -96,13 +96,15 @@ statusOf desired minimum final room = if ltb 1 final or ltb mostRoom room then U
 abbrev pub callWith : List ℕ → Option (List ℕ) → Call
 callWith w none = Unreadable
 callWith w (some []) =
-    if same w (ascii "expire") then Keeper K.the-variants.Expire else
     if same w (ascii "take") then Ledger L.the-variants.Take else
     if same w (ascii "room") then Ledger L.the-variants.Room else
     if same w (ascii "keeper") then Keeper K.the-variants.Show else
     if same w (ascii "ledger") then Ledger L.the-variants.Show else
     Unreadable
-callWith w (some (a ∷ [])) = if same w (ascii "confirm") then Keeper (K.the-variants.Confirm a) else Unreadable
+callWith w (some (a ∷ [])) =
+    if same w (ascii "expire") then Keeper (K.the-variants.Expire a) else
+    if same w (ascii "confirm") then Keeper (K.the-variants.Confirm a) else
+    Unreadable
 callWith w (some (a ∷ b ∷ [])) =
     if same w (ascii "arrive") then Keeper (K.the-variants.Arrive a b) else
     if same w (ascii "send") then Ledger (L.the-variants.Send a b) else

@@ -36,7 +36,7 @@ pub struct StatusCall {
 // A call on the secondary.
 pub enum KeeperCall {
     Arrive { number: u32, pdcp: u32 },
-    Expire,
+    Expire(u32),
     Confirm(u32),
     Status(StatusCall),
     Show,
@@ -173,9 +173,6 @@ fn status_of(desired: u32, minimum: u32, last: u32, room: u32) -> Call
 fn bare_call(word: &[u8]) -> Call
     ensures { λ r. ⌜ r ≡ callWith (now (word .entry)) (some []) ⌝ }
 {
-    if same(word, b"expire") {
-        return Call::Keeper(KeeperCall::Expire);
-    }
     if same(word, b"take") {
         return Call::Ledger(LedgerCall::Take);
     }
@@ -195,6 +192,9 @@ fn bare_call(word: &[u8]) -> Call
 fn call_of_one(word: &[u8], a: u32) -> Call
     ensures { λ r. ⌜ r ≡ callWith (now (word .entry)) (some (a ∷ [])) ⌝ }
 {
+    if same(word, b"expire") {
+        return Call::Keeper(KeeperCall::Expire(a));
+    }
     if same(word, b"confirm") {
         return Call::Keeper(KeeperCall::Confirm(a));
     }

@@ -68,7 +68,7 @@ reporting r = record { state = r .state; line = statusLine (r .answer) (r .buffe
 -- each call on the secondary by its machine; a status is written into an empty buffer of so much room
 abbrev pub playKeeper : secondary.Keeper → K.KeeperCall → Step secondary.Keeper
 playKeeper k (K.the-variants.Arrive number pdcp) = following A.the-variants.Lost (secondary.arrive k number pdcp)
-playKeeper k K.the-variants.Expire = following A.the-variants.Lost (secondary.expire k)
+playKeeper k (K.the-variants.Expire mark) = following A.the-variants.Lost (secondary.expire k mark)
 playKeeper k (K.the-variants.Confirm number) = following okAnswer (secondary.confirm k number)
 playKeeper k (K.the-variants.Status s) = reporting (secondary.status k (s .desired) (s .minimum) (s .last) (replicate (min (s .room) mostRoom) 0))
 playKeeper k K.the-variants.Show = shown k (keeperFields k)

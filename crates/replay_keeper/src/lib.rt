@@ -114,7 +114,10 @@ fn step(
             let answer = keeper::arrive(numbers, pdcps, marks, starts, ends, words, number, pdcp);
             counted(answer)
         }
-        KeeperCall::Expire => counted(keeper::expire(numbers, pdcps, marks, starts, ends, words)),
+        KeeperCall::Expire(n) => {
+            let answer = keeper::expire(numbers, pdcps, marks, starts, ends, words, n);
+            counted(answer)
+        }
         KeeperCall::Confirm(n) => {
             let answer = keeper::confirm(numbers, pdcps, marks, starts, ends, words, n);
             confirmed(answer)

@@ -29,7 +29,7 @@ reported-line r = status-line (r .answer) (r .buffer)
 
 keeper-call : (k : secondary.Keeper) (c : K.KeeperCall) → IsLine (playKeeper k c .line)
 keeper-call k (K.the-variants.Arrive number pdcp) = answer-line (answerBy A.the-variants.Lost (secondary.arrive k number pdcp .answer))
-keeper-call k K.the-variants.Expire = answer-line (answerBy A.the-variants.Lost (secondary.expire k .answer))
+keeper-call k (K.the-variants.Expire mark) = answer-line (answerBy A.the-variants.Lost (secondary.expire k mark .answer))
 keeper-call k (K.the-variants.Confirm number) = answer-line (answerBy okAnswer (secondary.confirm k number .answer))
 keeper-call k (K.the-variants.Status s) = reported-line (secondary.status k (s .desired) (s .minimum) (s .last) (replicate (min (s .room) mostRoom) 0))
 keeper-call k K.the-variants.Show = keeper-line k

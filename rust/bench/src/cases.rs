@@ -192,7 +192,17 @@ impl<S: Side> Made<S> {
         for _ in 0..count {
             let number = self.next + 1;
             assert_eq!(S::arrive(&mut self.keeper, number, number & 0xFFF), 0);
-            assert_eq!(S::expire(&mut self.keeper), 1);
+            assert_eq!(S::expire(&mut self.keeper, number), 1);
+            self.next += 2;
+        }
+        self
+    }
+
+    /// Gaps of one number each, and a record after each.
+    fn gaps(mut self, count: u32) -> Self {
+        for _ in 0..count {
+            let number = self.next + 1;
+            assert_eq!(S::arrive(&mut self.keeper, number, number & 0xFFF), 0);
             self.next += 2;
         }
         self
@@ -318,7 +328,30 @@ fn keeper<S: Side>(cases: &mut Vec<Case>) {
             on_each(&fresh, KEEPERS, i64::from(ahead) - 255, arrive),
         );
     }
+    expiries::<S>(&mut add);
     statuses::<S>(&mut add);
+}
+
+/// Expiries of few gaps and of all, with as many records past base.
+fn expiries<S: Side>(add: &mut impl FnMut(&str, &str, Option<f64>, Run)) {
+    let made = Made::<S>::new(12).gaps(128);
+    for (id, title, gaps) in [
+        ("expire-1", "expiry with 1 of 128 gaps before its mark", 1),
+        (
+            "expire-128",
+            "expiry with all of 128 gaps before its mark",
+            128,
+        ),
+    ] {
+        let mark = 2 * gaps - 1;
+        let expire = move |keeper: &mut S::Keeper| S::expire(keeper, black_box(mark));
+        add(
+            id,
+            title,
+            None,
+            on_each(&made, KEEPERS, i64::from(gaps), expire),
+        );
+    }
 }
 
 fn statuses<S: Side>(add: &mut impl FnMut(&str, &str, Option<f64>, Run)) {

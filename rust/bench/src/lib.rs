@@ -40,8 +40,8 @@ pub trait Side: 'static {
     fn keeper(pdcp_bits: u32, first: u32, first_pdcp: u32) -> Self::Keeper;
     /// A packet arrives.
     fn arrive(keeper: &mut Self::Keeper, number: u32, pdcp: u32) -> i64;
-    /// The gaps are given up.
-    fn expire(keeper: &mut Self::Keeper) -> i64;
+    /// The gaps before a mark are given up.
+    fn expire(keeper: &mut Self::Keeper, mark: u32) -> i64;
     /// A packet is confirmed.
     fn confirm(keeper: &mut Self::Keeper, number: u32) -> i64;
     /// A status is built.

@@ -77,8 +77,8 @@ impl Side for Rattle {
     }
 
     #[inline(never)]
-    fn expire(keeper: &mut Keeper) -> i64 {
-        keeper.expire()
+    fn expire(keeper: &mut Keeper, mark: u32) -> i64 {
+        keeper.expire(mark)
     }
 
     #[inline(never)]

@@ -87,8 +87,8 @@ impl Side for Rust {
     }
 
     #[inline(never)]
-    fn expire(keeper: &mut Keeper) -> i64 {
-        number(keeper.expire())
+    fn expire(keeper: &mut Keeper, mark: u32) -> i64 {
+        number(keeper.expire(mark))
     }
 
     #[inline(never)]

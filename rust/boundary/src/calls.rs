@@ -165,10 +165,10 @@ impl Keeper {
         }
     }
 
-    /// Gives up the open numbers: how many became lost, or the refusal below
-    /// zero.
+    /// Gives up the open numbers before a mark: how many became lost, or the
+    /// refusal below zero.
     #[inline]
-    pub fn expire(&mut self) -> i64 {
+    pub fn expire(&mut self, mark: u32) -> i64 {
         // SAFETY: as in `open`.
         unsafe {
             foreign::x2u_keeper_expire(
@@ -178,6 +178,7 @@ impl Keeper {
                 &mut self.starts,
                 &mut self.ends,
                 &mut self.words,
+                mark,
             )
         }
     }

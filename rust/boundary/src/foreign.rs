@@ -111,6 +111,7 @@ unsafe extern "C" {
         starts: *mut Runs,
         ends: *mut Runs,
         words: *mut Words,
+        mark: u32,
     ) -> i64;
     pub fn x2u_keeper_confirm(
         numbers: *mut Records,

@@ -24,6 +24,12 @@
 //! A further copy of a packet is answered with 12 from the lowest open packet
 //! on, with 18 exactly M/2 before it, with 11 elsewhere.
 //!
+//! And the mark of request Six: it is a packet, the latest through the highest
+//! accepted that bears the number. An expiry declares lost exactly the open
+//! packets before that one; if there is none, it declares nothing and is refused
+//! with 19 where the number lies ahead of base, beyond the highest accepted, and
+//! with 17 elsewhere.
+//!
 //! And what (iii) stands on: of the packets that wait at the master, no PDCP
 //! number is H, and measured from the oldest's they strictly rise, below half
 //! the circle. So no two are the same.
@@ -35,7 +41,7 @@
 //! And the sum of request Five: the octets that the master says wait are those
 //! of all packets that do, at any moment.
 //!
-//! "Declared lost" follows document 01's sentences on packet indexes; nothing
+//! "Declared lost" follows the documents' sentences on packet indexes; nothing
 //! here knows how the library keeps its state.
 
 use crate::Opening;
@@ -173,10 +179,22 @@ impl Watch {
         self.base
     }
 
+    /// The highest packet accepted so far.
+    #[must_use]
+    pub fn highest_accepted(&self) -> Option<usize> {
+        self.highest_accepted
+    }
+
     /// Whether a packet that is missing has a received one above it.
     #[must_use]
     pub fn has_gap(&self) -> bool {
         self.highest_accepted > Some(self.base)
+    }
+
+    /// The packets that are missing with a received one above them.
+    pub fn missing(&self) -> impl Iterator<Item = usize> + '_ {
+        let highest = self.highest_accepted.unwrap_or(0);
+        (self.base..highest).filter(|&packet| self.packets[packet].fate == Fate::Open)
     }
 
     /// Whether a packet may still arrive within E2.
@@ -259,16 +277,17 @@ impl Watch {
         self.lost_below((packet + 1).saturating_sub(256), answer)
     }
 
-    /// Expiry was called.
-    pub fn expired(&mut self, answer: Result<u32, Refusal>) -> Verdict {
-        match (answer, self.highest_accepted) {
-            (Err(Refusal::Closed), _) => Ok(()),
-            (_, Some(highest)) if self.base < highest => self.lost_below(highest, answer),
-            _ => {
-                let none = answer == Err(Refusal::NothingOpen);
+    /// Expiry was called with the mark of that number.
+    pub fn expired(&mut self, number: u32, answer: Result<u32, Refusal>) -> Verdict {
+        if answer == Err(Refusal::Closed) {
+            return Ok(());
+        }
+        match self.marked(number) {
+            Ok(mark) => self.lost_below(mark, answer),
+            Err(refusal) => {
                 check!(
-                    none,
-                    "expiry without an open number was answered {answer:?}"
+                    answer == Err(refusal),
+                    "expiry at {number} was answered {answer:?}, not {refusal:?}"
                 );
                 Ok(())
             }
@@ -317,6 +336,16 @@ impl Watch {
             }
         }
         Ok(())
+    }
+
+    /// Base and the listed runs at any moment.
+    pub fn stands(&self, base: u32, runs: &[Range]) -> Verdict {
+        let lowest = self.opening.number(self.base);
+        check!(
+            base == lowest,
+            "base is {base}, but the lowest open number is {lowest}"
+        );
+        self.listed(runs)
     }
 
     /// The listed runs at any moment.
@@ -420,6 +449,21 @@ impl Watch {
     /// M/2.
     fn half(&self) -> usize {
         self.opening.numbers() as usize / 2
+    }
+
+    /// The packet that an expiry's mark is, if an open one lies before it.
+    fn marked(&self, number: u32) -> Result<usize, Refusal> {
+        if u64::from(number) >= self.opening.numbers() {
+            return Err(Refusal::NumberTooLarge);
+        }
+        let ahead = self.opening.index_from(self.base, number);
+        if ahead < self.base + self.half() && self.highest_accepted < Some(ahead) {
+            return Err(Refusal::MarkBeyond);
+        }
+        let through = |last| self.opening.index_through(last, number);
+        let mark = self.highest_accepted.and_then(through);
+        mark.filter(|&mark| self.base < mark)
+            .ok_or(Refusal::NothingOpen)
     }
 
     /// What a copy of a packet that is received or lost is refused with.

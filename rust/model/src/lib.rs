@@ -1,4 +1,4 @@
-//! Document 01, and requests One and Three to Five of document 02, retold without
+//! Document 01, and requests One and Three to Six of document 02, retold without
 //! circles: numbers are absolute indexes that never roll over, and each keeps its
 //! fate for ever. Slow, and meant to be read beside the documents. The models
 //! share nothing with the library but the names of the refusals.
@@ -59,5 +59,12 @@ impl Opening {
         let modulus = self.numbers();
         let start = u64::from(self.number(from));
         from + ((u64::from(number) + modulus - start) % modulus) as usize
+    }
+
+    /// The latest index through `last` that has this X2-U number, if one has.
+    #[must_use]
+    pub fn index_through(&self, last: usize, number: u32) -> Option<usize> {
+        let turn_ago = (last + 1).saturating_sub(self.numbers() as usize);
+        Some(self.index_from(turn_ago, number)).filter(|&index| index <= last)
     }
 }

@@ -76,10 +76,10 @@ impl Pair {
         Ok(answer)
     }
 
-    /// The secondary gives up its gaps.
-    pub fn expire(&mut self) -> Watched<u32> {
-        let answer = self.keeper.expire();
-        self.watch.expired(answer)?;
+    /// The secondary gives up its gaps before a mark.
+    pub fn expire(&mut self, mark: u32) -> Watched<u32> {
+        let answer = self.keeper.expire(mark);
+        self.watch.expired(mark, answer)?;
         Ok(answer)
     }
 
@@ -139,7 +139,8 @@ impl Pair {
 
     /// Compares both ends with what the watch knows of them.
     pub fn check(&mut self) -> Result<(), String> {
-        self.watch.listed(self.keeper.listed_runs())?;
+        let Self { keeper, watch, .. } = self;
+        watch.stands(keeper.base(), keeper.listed_runs())?;
         let octets = self.ledger.waiting_octets();
         self.watch.held(self.ledger.entries(), octets)
     }

@@ -100,16 +100,27 @@ impl Secondary {
         Ok(self.lose_below(mark))
     }
 
-    /// Expiry.
-    pub fn expire(&mut self) -> Result<u32, Refusal> {
+    /// Expiry with a mark: of all indexes through the highest accepted it is the
+    /// latest that has its number.
+    pub fn expire(&mut self, number: u32) -> Result<u32, Refusal> {
         if self.closed {
             return Err(Refusal::Closed);
         }
+        if u64::from(number) >= self.opening.numbers() {
+            return Err(Refusal::NumberTooLarge);
+        }
         let highest_accepted = self.fates.iter().rposition(|&fate| fate == Fate::Received);
-        let mark = match highest_accepted {
-            Some(highest) if self.base < highest => highest,
-            _ => return Err(Refusal::NothingOpen),
-        };
+        // "less than M/2 forward from base and beyond the highest accepted, or so
+        // placed when nothing at or past base is accepted"
+        let ahead = self.opening.index_from(self.base, number);
+        let half = (self.opening.numbers() / 2) as usize;
+        if ahead - self.base < half && highest_accepted < Some(ahead) {
+            return Err(Refusal::MarkBeyond);
+        }
+        let named = highest_accepted.and_then(|last| self.opening.index_through(last, number));
+        // "no open number precedes the mark"
+        let mark = named.filter(|&mark| (self.base..mark).any(|i| self.fate(i) == Fate::Open));
+        let mark = mark.ok_or(Refusal::NothingOpen)?;
         if self.runs_if_lost_below(mark).len() > 256 {
             return Err(Refusal::RunsFull);
         }

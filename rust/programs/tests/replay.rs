@@ -20,7 +20,7 @@ fn the_sample() {
 fn calls_before_an_open() {
     let lines = [
         "arrive\t0\t0",
-        "expire",
+        "expire\t0",
         "confirm\t0",
         "status\t0\t0\t0\t0",
         "send\t0\t1",
@@ -60,7 +60,7 @@ fn a_refused_open_leaves_what_was_there() {
 }
 
 /// Lines that are no calls.
-const NO_CALLS: [&str; 37] = [
+const NO_CALLS: [&str; 44] = [
     "",
     " ",
     "open",
@@ -75,7 +75,14 @@ const NO_CALLS: [&str; 37] = [
     "open\t12\t4294967296\t0",
     "open\t12\t-1\t0",
     "open\t12\t+1\t0",
+    "expire",
     "expire\t",
+    "expire\t\t0",
+    "expire\t0\t",
+    "expire\t0\t0",
+    "expire\t-1",
+    "expire\t00000000000",
+    "expire\t4294967296",
     "take\t1",
     "send",
     "send\t0",
@@ -162,6 +169,38 @@ const SIZES: [(&str, &str); 18] = [
 fn sizes_leave_room() {
     let answers = replay(&SIZES.map(|(call, _)| call));
     assert_eq!(answers, SIZES.map(|(_, answer)| answer));
+}
+
+/// Calls and their answers: expiries up to their marks.
+const MARKS: [(&str, &str); 16] = [
+    ("open\t12\t65534\t4095", "ok"),
+    ("expire\t65534", "refused\t19"),
+    ("arrive\t65534\t4095", "lost\t0"),
+    ("expire\t65535", "refused\t19"),
+    ("expire\t65534", "refused\t17"),
+    ("arrive\t0\t1", "lost\t0"),
+    ("arrive\t3\t4", "lost\t0"),
+    ("expire\t65536", "refused\t10"),
+    ("expire\t4294967295", "refused\t10"),
+    ("expire\t4", "refused\t19"),
+    ("expire\t65535", "refused\t17"),
+    ("expire\t0000000000", "lost\t1"),
+    (
+        "keeper",
+        "keeper\t1\t4094\t0\t65535-65535\t65534:4095:0,0:1:0,3:4:0",
+    ),
+    ("expire\t2", "lost\t1"),
+    ("expire\t3", "lost\t1"),
+    (
+        "keeper",
+        "keeper\t4\t4094\t0\t65535-65535,1-2\t65534:4095:0,0:1:0,3:4:0",
+    ),
+];
+
+#[test]
+fn expiries_up_to_their_marks() {
+    let answers = replay(&MARKS.map(|(call, _)| call));
+    assert_eq!(answers, MARKS.map(|(_, answer)| answer));
 }
 
 #[test]

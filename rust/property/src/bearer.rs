@@ -1,6 +1,7 @@
 //! A bearer inside demand 3's bounds, played step by step on the library's
 //! ends under watch, and recorded for another make to play.
 
+use crate::marks::marks;
 use crate::sizes::{desireds, sizes};
 use crate::trace::{Event, Trace};
 use model::pair::Watched;
@@ -8,6 +9,7 @@ use model::{Opening, Pair};
 use programs::replay::Call;
 use proptest::prelude::*;
 use proptest::sample::{Index, select};
+use soak::marks::{Mark, Marks, highest_accepted};
 use soak::order::{Before, Edge, Sends};
 use soak::sizes::{self as octets, Desired, Size, Sizes};
 use x2u::circle::Circle;
@@ -72,8 +74,13 @@ pub enum Step {
     ArriveOldest,
     /// Out of the circle, so refused before it is anything.
     ArriveOutside(u32),
-    /// The gaps are given up.
-    Expire,
+    /// An expiry with its mark there.
+    Expire(Mark),
+    /// The host's gap timer starts: the highest accepted is its mark, if there is
+    /// a gap.
+    StartTimer,
+    /// It ends: an expiry with the mark that it started with, if it runs.
+    EndTimer,
     /// Confirms from the oldest unsettled packet on, but for every `passed`-th.
     Confirm {
         /// Which ones are left out.
@@ -111,6 +118,12 @@ impl Step {
         }
     }
 
+    /// An expiry that gives up every gap.
+    #[must_use]
+    pub fn expire() -> Self {
+        Self::Expire(Mark::Highest(0))
+    }
+
     /// A status as it mostly is.
     #[must_use]
     pub fn status(is_final: bool) -> Self {
@@ -143,7 +156,9 @@ pub fn steps() -> impl Strategy<Value = Step> {
         4 => any::<Index>().prop_map(Step::ArriveSome),
         1 => Just(Step::ArriveOldest),
         1 => any::<u32>().prop_map(Step::ArriveOutside),
-        3 => Just(Step::Expire),
+        9 => marks().prop_map(Step::Expire),
+        2 => Just(Step::StartTimer),
+        2 => Just(Step::EndTimer),
         8 => (prop_oneof![2 => Just(1_000_usize), 1 => 1_usize..60], many)
             .prop_map(|(passed, count)| Step::Confirm { passed, count }),
         1 => any::<u16>().prop_map(Step::ConfirmAny),
@@ -167,6 +182,8 @@ fn rests() -> impl Strategy<Value = Step> {
 pub struct Bearer {
     /// The circle of PDCP numbers.
     pub circle: Circle,
+    /// The circle of X2-U numbers.
+    numbers: Circle,
     /// Both ends, under watch.
     pub pair: Pair,
     /// All calls so far.
@@ -175,6 +192,10 @@ pub struct Bearer {
     pub sends: Sends,
     /// What its sends and rooms met of sizes.
     pub sizes: Sizes,
+    /// What its expiries met by their marks.
+    pub marks: Marks,
+    /// The mark of the host's gap timer, while it runs.
+    timer: Option<u32>,
     /// The next packet that has not been on its way yet.
     fresh: usize,
 }
@@ -184,12 +205,16 @@ impl Bearer {
     #[must_use]
     pub fn new(opening: Opening) -> Self {
         let fits = "the opening was made to be accepted";
+        let bearer = x2u::Bearer::judged(opening.bits, 0, 0).expect(fits);
         Self {
-            circle: x2u::Bearer::judged(opening.bits, 0, 0).expect(fits).pdcp,
+            circle: bearer.pdcp,
+            numbers: bearer.numbers(),
             pair: Pair::open(opening),
             trace: Trace::new(opening),
             sends: Sends::default(),
             sizes: Sizes::default(),
+            marks: Marks::default(),
+            timer: None,
             fresh: 0,
         }
     }
@@ -219,9 +244,12 @@ impl Bearer {
             }
             Step::ArriveOldest => self.arrive_again(self.pair.watch.oldest_copy())?,
             Step::ArriveOutside(number) => self.arrive_outside(number | 1 << 24)?,
-            Step::Expire => {
-                self.trace.call(&Call::Expire, Event::Expired);
-                let _ = self.pair.expire()?;
+            Step::Expire(mark) => self.expire(mark.at(self.numbers, &self.pair.keeper))?,
+            Step::StartTimer => self.timer = highest_accepted(self.numbers, &self.pair.keeper),
+            Step::EndTimer => {
+                if let Some(mark) = self.timer.take() {
+                    self.expire(mark)?;
+                }
             }
             Step::Confirm { passed, count } => self.confirm_some(*passed, *count)?,
             Step::ConfirmAny(number) => self.confirm(u32::from(*number))?,
@@ -353,6 +381,13 @@ impl Bearer {
         }
         self.fresh = self.pair.watch.sent_count().min(self.fresh + count);
         Ok(())
+    }
+
+    /// An expiry with that mark.
+    fn expire(&mut self, mark: u32) -> Result<(), String> {
+        self.trace.call(&Call::Expire(mark), Event::Expired(mark));
+        self.marks.expire(self.numbers, &self.pair.keeper, mark);
+        self.pair.expire(mark).map(|_| ())
     }
 
     fn confirm(&mut self, number: u32) -> Result<(), String> {

@@ -6,18 +6,41 @@ use crate::suite::Verdict;
 use boundary::{MOST_RECORDS, MOST_RUNS, OPEN};
 use programs::replay::{Call, MOST_ROOM};
 use proptest::prelude::*;
+use soak::marks::Marks;
 use soak::table::Table;
+use x2u::circle::Circle;
 use x2u::frame::LONGEST;
-use x2u::{Answer, Keeper, Refusal};
+use x2u::{Answer, Form, Keeper, Refusal};
 
 /// The keeper's refusals.
-pub const REFUSALS: [u8; 13] = [7, 9, 10, 11, 12, 13, 14, 15, 16, 17, 18, 20, 22];
+pub const REFUSALS: [u8; 14] = [7, 9, 10, 11, 12, 13, 14, 15, 16, 17, 18, 19, 20, 22];
 
 fn number(answer: Answer<u32>) -> i64 {
     match answer {
         Ok(answer) => answer.into(),
         Err(refusal) => -i64::from(refusal.number()),
     }
+}
+
+/// The circle of X2-U numbers by L, of a state too that no call left behind.
+fn circle(length: u32) -> Circle {
+    let form = if length == 18 {
+        Form::Long
+    } else {
+        Form::Short
+    };
+    form.numbers()
+}
+
+/// What the keeper's calls met.
+#[derive(Clone, Debug, Default)]
+pub struct Met {
+    /// How often each answer was given.
+    pub table: Table,
+    /// What expiries met by their marks.
+    pub marks: Marks,
+    /// How many calls there were.
+    pub calls: u64,
 }
 
 /// Both keepers of one bearer.
@@ -27,28 +50,32 @@ struct Both {
     product: Box<boundary::Keeper>,
 }
 
-/// Plays the keeper's calls of a script on both. Answers how many there were.
-pub fn alike(script: &Script, table: &mut Table) -> Result<u64, String> {
+/// Plays the keeper's calls of a script on both.
+pub fn alike(script: &Script, met: &mut Met) -> Verdict {
     let mut both = Both {
         library: None,
         product: Box::new(boundary::Keeper::of(0)),
     };
-    let mut calls = 0;
     let mut room = [0; LONGEST];
     for line in &script.0 {
-        if let Some(call) = Call::of_line(line, &mut room)
-            && let Some((word, answer)) = both.make(&call)?
-        {
+        let Some(call) = Call::of_line(line, &mut room) else {
+            continue;
+        };
+        if let (Call::Expire(mark), Some(library)) = (&call, &both.library) {
+            let circle = circle(both.product.words[0]);
+            met.marks.expire(circle, library, *mark);
+        }
+        if let Some((word, answer)) = both.make(&call)? {
             let text = if answer < 0 {
                 format!("refused\t{}", -answer)
             } else {
                 format!("{word} done")
             };
-            table.count(word.as_bytes(), text.as_bytes());
-            calls += 1;
+            met.table.count(word.as_bytes(), text.as_bytes());
+            met.calls += 1;
         }
     }
-    Ok(calls)
+    Ok(())
 }
 
 impl Both {
@@ -95,10 +122,10 @@ impl Both {
                 library.map_or(closed, |end| end.arrive(n, p)),
                 product.arrive(n, p),
             ),
-            Call::Expire => (
+            Call::Expire(mark) => (
                 "expire",
-                library.map_or(closed, |end| end.expire()),
-                product.expire(),
+                library.map_or(closed, |end| end.expire(mark)),
+                product.expire(mark),
             ),
             Call::Confirm(n) => (
                 "confirm",
@@ -180,23 +207,53 @@ pub struct Garbage {
     words: boundary::Words,
     number: u32,
     pdcp: u32,
+    mark: u32,
     room: usize,
 }
 
 /// The places of a state's arrays, without its words.
 const PLACES: usize = 3 * MOST_RECORDS + 2 * MOST_RUNS;
 
+/// How far a mark may lie from base: near it, and around half of each circle.
+const FROM_BASE: [u32; 12] = [
+    0,
+    1,
+    2,
+    255,
+    256,
+    32_767,
+    32_768,
+    65_535,
+    8_388_607,
+    8_388_608,
+    16_777_215,
+    u32::MAX,
+];
+
+/// A word of a state or of a call: small, around a limit, or any.
+fn word() -> impl Strategy<Value = u32> {
+    let limits = [
+        0_u32, 1, 12, 15, 18, 161, 162, 163, 255, 256, 257, 511, 512, 513,
+    ];
+    prop_oneof![
+        2 => prop::sample::select(limits.to_vec()),
+        2 => 0_u32..70_000,
+        1 => any::<u32>(),
+        1 => Just(u32::MAX),
+    ]
+}
+
+/// A mark: any word, or how far it lies from base.
+fn marks() -> impl Strategy<Value = Result<u32, u32>> {
+    prop_oneof![
+        word().prop_map(Ok),
+        prop::sample::select(FROM_BASE.to_vec()).prop_map(Err)
+    ]
+}
+
 /// States of garbage: words of any kind, arrays of one number but for some
 /// places.
 pub fn garbage() -> impl Strategy<Value = Garbage> {
-    let word = || {
-        prop_oneof![
-            2 => prop::sample::select(vec![0_u32, 1, 12, 15, 18, 161, 162, 163, 255, 256, 257, 511, 512, 513]),
-            2 => 0_u32..70_000,
-            1 => any::<u32>(),
-            1 => Just(u32::MAX),
-        ]
-    };
     let words = [word(), word(), word(), word(), word(), word()];
     let places = prop::collection::vec((0..PLACES, word()), 0..40);
     let lengths = prop::sample::select(vec![0_u32, 12, 15, 18, 40]);
@@ -206,10 +263,11 @@ pub fn garbage() -> impl Strategy<Value = Garbage> {
         (words, lengths, any::<bool>()),
         word(),
         word(),
+        marks(),
         0_usize..1_020,
     )
         .prop_map(
-            |(fill, places, (words, length, open), number, pdcp, room)| {
+            |(fill, places, (words, length, open), number, pdcp, mark, room)| {
                 let mut words = words;
                 words[0] = length;
                 if open {
@@ -221,6 +279,7 @@ pub fn garbage() -> impl Strategy<Value = Garbage> {
                     words,
                     number,
                     pdcp,
+                    mark: mark.unwrap_or_else(|ahead| circle(length).step(words[1], ahead)),
                     room,
                 }
             },
@@ -248,7 +307,7 @@ pub fn survives(garbage: &Garbage) -> Result<u64, String> {
     type Calls<'a> = [(&'a str, &'a mut dyn FnMut(&mut boundary::Keeper) -> i64); 5];
     let calls: Calls<'_> = [
         ("arrive", &mut |state| state.arrive(number, pdcp)),
-        ("expire", &mut |state| state.expire()),
+        ("expire", &mut |state| state.expire(garbage.mark)),
         ("confirm", &mut |state| state.confirm(number)),
         ("status", &mut |state| {
             state.status(number, pdcp, pdcp % 2 == 1, &mut buffer)

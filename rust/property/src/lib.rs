@@ -8,6 +8,7 @@ pub mod codec;
 pub mod frames;
 #[cfg(feature = "product")]
 pub mod keeper;
+pub mod marks;
 pub mod replay;
 pub mod rested;
 pub mod scripts;

@@ -80,7 +80,7 @@ fn traffic(bearer: &mut Bearer, count: usize) -> Verdict {
             period: 5,
             count,
         },
-        Step::Expire,
+        Step::expire(),
         Step::Confirm {
             passed: usize::MAX,
             count: usize::MAX,
@@ -128,7 +128,7 @@ fn sent_again(bearer: &mut Bearer) -> Verdict {
             send(bearer, pdcp, Ok(()))?;
         }
         bearer.arrive(1, 4, lost.len())?;
-        bearer.make(&Step::Expire)?;
+        bearer.make(&Step::expire())?;
         bearer.drain()?;
         traffic(bearer, 100)?;
     }

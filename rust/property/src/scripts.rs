@@ -43,6 +43,8 @@ pub enum Aim {
     Rests,
     /// One bearer with PDUs at the limits of their size, and around the room.
     Sizes,
+    /// One bearer with expiries whose marks are of every kind.
+    Marks,
 }
 
 impl Strategy for Aim {
@@ -57,6 +59,7 @@ impl Strategy for Aim {
             Self::Forgotten => moods::long_script(fork(), false).text,
             Self::Rests => moods::rested(fork()).text,
             Self::Sizes => moods::sized(fork()).text,
+            Self::Marks => moods::marked(fork()).text,
             Self::Moods(least) => {
                 let mut text = moods::unopened(fork());
                 let mut lines = 0;
@@ -170,7 +173,7 @@ fn random_line() -> impl Strategy<Value = Vec<u8>> {
     prop_oneof![
         1 => (bits, numbers(), numbers()).prop_map(|(l, n, p)| format!("open\t{l}\t{n}\t{p}")),
         6 => (numbers(), numbers()).prop_map(|(n, p)| format!("arrive\t{n}\t{p}")),
-        2 => Just("expire".to_owned()),
+        2 => numbers().prop_map(|mark| format!("expire\t{mark}")),
         4 => numbers().prop_map(|n| format!("confirm\t{n}")),
         2 => (numbers(), numbers(), 0_u32..3, room)
             .prop_map(|(d, m, last, room)| format!("status\t{d}\t{m}\t{}\t{room}", last / 2)),
@@ -231,7 +234,8 @@ mod tests {
             let take = lines.iter().rposition(|line| begins(line, "take"));
             expire.zip(take).is_some_and(|(expire, take)| expire < take)
         });
-        assert_eq!(lines, [b"expire".to_vec(), b"take".to_vec()]);
+        assert_eq!(lines.len(), 2);
+        assert!(begins(&lines[0], "expire") && begins(&lines[1], "take"));
     }
 
     #[test]

@@ -19,8 +19,8 @@ pub enum Event {
     Sent(u32, u32),
     /// A copy of this packet arrives.
     Arrived(usize),
-    /// Expiry.
-    Expired,
+    /// An expiry with this mark.
+    Expired(u32),
     /// A confirm of this number.
     Confirmed(u32),
     /// A status is asked for.
@@ -126,7 +126,7 @@ impl Told {
                 Err(_) => Ok(()),
             },
             Event::Arrived(packet) => self.watch.arrived(packet, said.lost()?),
-            Event::Expired => self.watch.expired(said.lost()?),
+            Event::Expired(mark) => self.watch.expired(mark, said.lost()?),
             Event::Confirmed(number) => self.watch.confirmed(number, said.ok()?),
             Event::Built => self.built(&said),
             Event::Accepted => self.accepted(line, &said, next),
@@ -136,7 +136,10 @@ impl Told {
                 Some(_) => Ok(()),
                 None => Err(format!("not refused: {said:?}")),
             },
-            Event::Keeper => self.watch.listed(&said.runs()?),
+            Event::Keeper => {
+                let (base, runs) = said.keeper()?;
+                self.watch.stands(base, &runs)
+            }
             Event::Ledger => {
                 let shown = said.ledger()?;
                 self.watch.held(shown.entries.iter(), shown.octets)
@@ -270,15 +273,10 @@ impl<'a> Said<'a> {
         }
     }
 
-    fn runs(&self) -> Result<Vec<Range>, String> {
+    /// Base and the listed runs.
+    fn keeper(&self) -> Result<(u32, Vec<Range>), String> {
         match self.fields[..] {
-            ["keeper", _, _, _, runs, _] => listed(runs, |run| {
-                let (start, end) = run.split_once('-')?;
-                Some(Range {
-                    start: start.parse().ok()?,
-                    end: end.parse().ok()?,
-                })
-            }),
+            ["keeper", base, _, _, runs, _] => Ok((number_of(base)?, listed(runs, run_of)?)),
             _ => self.wrong(),
         }
     }
@@ -315,6 +313,15 @@ impl Shown {
             "{octets} octets wait, it says, but its entries that wait have {sum}"
         ))
     }
+}
+
+/// A run as a `keeper` line lists it.
+fn run_of(text: &str) -> Option<Range> {
+    let (start, end) = text.split_once('-')?;
+    Some(Range {
+        start: start.parse().ok()?,
+        end: end.parse().ok()?,
+    })
 }
 
 /// An entry as a `ledger` line lists it.

@@ -6,6 +6,7 @@ use property::bearer::{Bearer, Step, openings, steps};
 use property::suite::holds_on;
 use proptest::collection::vec;
 use proptest::prelude::*;
+use soak::marks::{Mark, Marks};
 use soak::order::Sends;
 use soak::sizes::{Desired, Sizes};
 use soak::sums::Sums;
@@ -28,6 +29,7 @@ fn answers(lines: &[Vec<u8>]) -> Vec<Vec<u8>> {
 #[test]
 fn demand_3_holds() {
     let met = RefCell::new((Sends::default(), Sizes::default(), Sums::default()));
+    let marks_met = RefCell::new(Marks::default());
     let bearers = (openings(6), vec(steps(), 1..120));
     holds_on(300, &bearers, |(opening, steps)| {
         let mut bearer = Bearer::new(opening);
@@ -41,12 +43,15 @@ fn demand_3_holds() {
         sends.add(bearer.sends);
         sizes.add(bearer.sizes);
         sums.see_all(&trace.lines, &answers);
+        marks_met.borrow_mut().add(bearer.marks);
         Ok(())
     });
     let (sends, sizes, sums) = met.into_inner();
     assert!(sends.least() >= 50, "{sends}");
     assert!(sizes.least() >= 10, "{sizes}");
     assert!(sums.least() >= 10, "{sums}");
+    let marks = marks_met.into_inner();
+    assert!(marks.least_in_bounds() > 0, "{marks}");
 }
 
 /// More runs than a frame carries: the highest is held back, and demand 3 with
@@ -71,7 +76,7 @@ fn demand_3_holds_with_a_run_left_out() {
                 128,
                 0,
             ),
-            (Step::Expire, 256, 0),
+            (Step::expire(), 256, 0),
             (
                 Step::Confirm {
                     passed: 1_000,
@@ -135,7 +140,7 @@ fn demand_3_holds_over_rollovers() {
             bearer.make(&Step::send(100 + round % 7)).unwrap();
             bearer.arrive(1 + round as usize % 2, 11, 106).unwrap();
             opposite += old_copies(&mut bearer);
-            bearer.make(&Step::Expire).unwrap();
+            bearer.make(&Step::expire()).unwrap();
             opposite += old_copies(&mut bearer);
             for step in [
                 Step::Confirm {
@@ -236,7 +241,7 @@ fn the_watch_sees_a_wrong_room_and_a_wrong_size() {
             period: 5,
             count: 8,
         },
-        Step::Expire,
+        Step::expire(),
         Step::Status {
             desired: Desired::Left(500),
             is_final: false,
@@ -268,7 +273,7 @@ fn the_watch_sees_a_wrong_sum() {
             period: 5,
             count: 8,
         },
-        Step::Expire,
+        Step::expire(),
         Step::status(false),
         Step::Deliver(1),
     ] {
@@ -288,6 +293,102 @@ fn the_watch_sees_a_wrong_sum() {
     ] {
         let told = watch.clone().held(ledger.entries(), sum);
         assert_eq!(told.is_err(), seen, "{sum}: {told:?}");
+    }
+}
+
+/// Packets 0, 3, 4 and 7 of ten arrived: what the watch takes an expiry's answer
+/// for, by its mark. On a first packet of 65,533 the numbers roll over.
+#[test]
+fn the_watch_sees_an_expiry_beside_its_mark() {
+    let mut bearer = Bearer::new(Opening {
+        bits: 12,
+        first: 65_533,
+        first_pdcp: 0,
+    });
+    bearer.make(&Step::send(10)).unwrap();
+    for packet in [0, 3, 4, 7] {
+        let _ = bearer.arrive_packet(packet).unwrap();
+    }
+    let nothing_open = Err(Refusal::NothingOpen);
+    let beyond = Err(Refusal::MarkBeyond);
+    for (packet, answer) in [
+        (0, nothing_open),
+        (1, nothing_open),
+        (2, Ok(1)),
+        (3, Ok(2)),
+        (4, Ok(2)),
+        (5, Ok(2)),
+        (6, Ok(3)),
+        (7, Ok(4)),
+        (8, beyond),
+        (9, beyond),
+        (HALF, beyond),
+        (HALF + 1, nothing_open),
+        (65_535, nothing_open),
+    ] {
+        let mark = ((65_533 + packet) % 65_536) as u32;
+        for told in [Ok(0), Ok(1), Ok(2), Ok(3), Ok(4), nothing_open, beyond] {
+            let verdict = bearer.pair.watch.clone().expired(mark, told);
+            assert_eq!(verdict.is_ok(), told == answer, "{packet}: {told:?}");
+        }
+    }
+}
+
+/// A base that isn't the lowest open number, with the runs beside it being right.
+#[test]
+fn the_watch_sees_a_wrong_base() {
+    let mut bearer = Bearer::new(PLAIN);
+    for step in [
+        Step::send(10),
+        Step::Arrive {
+            dropped: 2,
+            period: 5,
+            count: 10,
+        },
+        Step::Expire(Mark::Base(1)),
+    ] {
+        bearer.make(&step).unwrap();
+    }
+    let (watch, runs) = (&bearer.pair.watch, bearer.pair.keeper.listed_runs());
+    for (base, seen) in [(0, true), (1, false), (2, true), (5, true)] {
+        let told = watch.stands(base, runs);
+        assert_eq!(told.is_err(), seen, "{base}: {told:?}");
+    }
+}
+
+/// What comes while the timer runs is spared, and may still arrive.
+#[test]
+fn a_timer_spares_what_came_after_its_start() {
+    for bits in [12, 15, 18] {
+        let mut bearer = Bearer::new(Opening {
+            bits,
+            first: 65_530,
+            first_pdcp: 4_000,
+        });
+        bearer.make(&Step::send(12)).unwrap();
+        for packet in [0, 2, 3] {
+            let _ = bearer.arrive_packet(packet).unwrap();
+        }
+        bearer.make(&Step::StartTimer).unwrap();
+        for packet in [5, 8, 9] {
+            let _ = bearer.arrive_packet(packet).unwrap();
+        }
+        bearer.make(&Step::EndTimer).unwrap();
+        assert_eq!((bearer.pair.tally().lost, bearer.pair.watch.base()), (1, 4));
+        let spared: Vec<usize> = bearer.pair.watch.missing().collect();
+        assert_eq!(spared, [4, 6, 7]);
+        for packet in [4, 7] {
+            assert_eq!(bearer.arrive_packet(packet), Ok(Ok(0)));
+        }
+        bearer.make(&Step::EndTimer).unwrap();
+        assert_eq!(bearer.pair.tally().lost, 1);
+        for step in [Step::StartTimer, Step::EndTimer] {
+            bearer.make(&step).unwrap();
+        }
+        assert_eq!(
+            (bearer.pair.tally().lost, bearer.pair.watch.base()),
+            (2, 10)
+        );
     }
 }
 

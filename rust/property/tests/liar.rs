@@ -36,7 +36,7 @@ fn liar(name: &str, sed: &str) -> PathBuf {
 #[test]
 fn a_lie_fails_its_property_and_is_shrunk() {
     let honest = sibling("replay");
-    let liar = liar("wrong-number", "s/^refused.17$/refused\\t71/");
+    let liar = liar("wrong-number", "s/^refused.19$/refused\\t91/");
     let mut suite = Suite::new(1);
     let mut answered = Answered::default();
     let smallest = RefCell::new(Script(Vec::new()));
@@ -50,14 +50,14 @@ fn a_lie_fails_its_property_and_is_shrunk() {
     assert_eq!((suite.passed, suite.failed), (0, 1));
     let smallest = smallest.into_inner();
     assert_eq!(smallest.0.len(), 2, "{smallest:?}");
-    assert_eq!(smallest.0[1], b"expire");
+    assert!(smallest.0[1].starts_with(b"expire\t"), "{smallest:?}");
 }
 
 #[test]
 fn a_missing_answer_is_seen() {
     let honest = sibling("replay");
     let liar = liar("silent", "3d");
-    let script = Script(vec![b"expire".to_vec(); 4]);
+    let script = Script(vec![b"expire\t0".to_vec(); 4]);
     assert!(answers_alike([&honest, &honest], &script).is_ok());
     assert!(answers_alike([&honest, &liar], &script).is_err());
 }
@@ -87,7 +87,7 @@ fn bearer() -> Bearer {
             period: 5,
             count: 10,
         },
-        Step::Expire,
+        Step::expire(),
         Step::Confirm {
             passed: 1_000,
             count: 10,
@@ -108,6 +108,27 @@ fn with_sum(answer: &str, other: fn(u32) -> u32) -> String {
     fields.join("\t")
 }
 
+/// Another answer in place of one that begins with that word.
+type Lie = fn(&str) -> String;
+
+/// Each of these lies is a violation, at whatever line the answer stands.
+const LIES: [(&str, Lie); 12] = [
+    ("sent", |answer| answer.replace("65530", "65531")),
+    ("lost", |answer| answer.replace("\t2", "\t1")),
+    ("keeper", |answer| {
+        answer.replacen("keeper\t", "keeper\t1", 1)
+    }),
+    ("frame", |answer| answer.replace("02fffa", "02fffb")),
+    ("freed", |answer| answer.replace("freed\t8", "freed\t7")),
+    ("ledger", |answer| answer.replacen(":l", ":w", 1)),
+    ("ledger", |answer| answer.replacen(":l:1", ":l:2", 1)),
+    ("ledger", |answer| with_sum(answer, |octets| octets + 1)),
+    ("ledger", |answer| with_sum(answer, |_| 0)),
+    ("taken", |answer| answer.replace("65530", "65531")),
+    ("taken", |answer| format!("{answer}0")),
+    ("room", |answer| format!("{answer}1")),
+];
+
 #[test]
 fn demand_3_is_told_from_answers_alone() {
     let trace = bearer().trace;
@@ -119,22 +140,7 @@ fn demand_3_is_told_from_answers_alone() {
         (2, 2, 8, 2)
     );
 
-    // Each of these lies is a violation, at whatever line the answer stands.
-    type Lie = fn(&str) -> String;
-    let lies: [(&str, Lie); 11] = [
-        ("sent", |answer| answer.replace("65530", "65531")),
-        ("lost", |answer| answer.replace("\t2", "\t1")),
-        ("frame", |answer| answer.replace("02fffa", "02fffb")),
-        ("freed", |answer| answer.replace("freed\t8", "freed\t7")),
-        ("ledger", |answer| answer.replacen(":l", ":w", 1)),
-        ("ledger", |answer| answer.replacen(":l:1", ":l:2", 1)),
-        ("ledger", |answer| with_sum(answer, |octets| octets + 1)),
-        ("ledger", |answer| with_sum(answer, |_| 0)),
-        ("taken", |answer| answer.replace("65530", "65531")),
-        ("taken", |answer| format!("{answer}0")),
-        ("room", |answer| format!("{answer}1")),
-    ];
-    for (word, lie) in lies {
+    for (word, lie) in LIES {
         let mut told = answers.clone();
         let mut changed = 0;
         for answer in &mut told {

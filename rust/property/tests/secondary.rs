@@ -2,10 +2,15 @@
 
 use model::{Opening, Secondary};
 use property::bearer::openings;
+use property::marks::marks;
+use property::suite::holds_on;
 use proptest::collection::vec;
 use proptest::prelude::*;
+use soak::marks::{Mark, Marks};
+use std::cell::RefCell;
+use x2u::circle::Circle;
 use x2u::frame::{self, Frame, Range};
-use x2u::{Keeper, Refusal};
+use x2u::{Form, Keeper, Refusal};
 
 /// A call, its number given by where it lies rather than outright.
 #[derive(Clone, Debug)]
@@ -28,7 +33,7 @@ enum Call {
     /// lie opposite floor.
     FillSpan,
     ArriveAny(u32, u32),
-    Expire,
+    Expire(Mark),
     /// Confirms of every `step`-th record.
     Confirm {
         from: usize,
@@ -60,13 +65,13 @@ fn calls() -> impl Strategy<Value = Call> {
         1 => (-3_i64..3).prop_map(|off| Call::ArriveAtSpan { off }),
         1 => Just(Call::FillSpan),
         1 => (any::<u32>(), any::<u32>()).prop_map(|(number, pdcp)| Call::ArriveAny(number, pdcp)),
-        4 => Just(Call::Expire),
+        8 => marks().prop_map(Call::Expire),
         6 => (some_or(0, 0..8), some_or(1, 1..3), some_or(600, 1..300))
             .prop_map(|(from, step, count)| Call::Confirm { from, step, count }),
         2 => (0_u32..600).prop_map(|behind| Call::ConfirmNear { behind }),
         1 => (-2_i64..3).prop_map(|off| Call::ConfirmHalfway { off }),
         1 => any::<u32>().prop_map(Call::ConfirmAny),
-        4 => (prop::bool::weighted(0.02), prop_oneof![Just(1_018_usize), 0_usize..1_018])
+        4 => (prop::bool::weighted(0.05), prop_oneof![Just(1_018_usize), 0_usize..1_018])
             .prop_map(|(is_final, room)| Call::Status { is_final, room }),
     ]
 }
@@ -90,13 +95,19 @@ struct Test {
     keeper: Keeper,
     model: Secondary,
     arrivals: u32,
+    circle: Circle,
+    marks: Marks,
 }
 
 impl Test {
     fn new(opening: Opening) -> Self {
         let (first, first_pdcp) = (opening.first as u32, opening.first_pdcp as u32);
+        let long = opening.bits == 18;
+        let form = if long { Form::Long } else { Form::Short };
         Self {
             opening,
+            circle: form.numbers(),
+            marks: Marks::default(),
             keeper: Keeper::open(opening.bits, first, first_pdcp).unwrap(),
             model: Secondary::open(opening),
             arrivals: 0,
@@ -124,7 +135,7 @@ impl Test {
             Call::ArriveAtSpan { off } => self.arrive_at_span(off)?,
             Call::FillSpan => {
                 self.arrive_at_span(-1)?;
-                self.expire()?;
+                self.expire(Mark::Highest(0))?;
             }
             Call::ArriveAny(number, pdcp) => {
                 prop_assert_eq!(
@@ -132,7 +143,7 @@ impl Test {
                     self.model.arrive(number, pdcp)
                 );
             }
-            Call::Expire => self.expire()?,
+            Call::Expire(mark) => self.expire(mark)?,
             Call::Confirm { from, step, count } => {
                 let records: Vec<usize> = self.model.records().collect();
                 for index in records.into_iter().skip(from).step_by(step).take(count) {
@@ -163,8 +174,10 @@ impl Test {
         self.arrive(self.number(self.model.floor() as i64 + half + off))
     }
 
-    fn expire(&mut self) -> Result<(), TestCaseError> {
-        prop_assert_eq!(self.keeper.expire(), self.model.expire());
+    fn expire(&mut self, mark: Mark) -> Result<(), TestCaseError> {
+        let mark = mark.at(self.circle, &self.keeper);
+        self.marks.expire(self.circle, &self.keeper, mark);
+        prop_assert_eq!(self.keeper.expire(mark), self.model.expire(mark));
         Ok(())
     }
 
@@ -231,15 +244,20 @@ impl Test {
     }
 }
 
-proptest! {
-    #![proptest_config(ProptestConfig { cases: 200, ..ProptestConfig::default() })]
-    #[test]
-    fn the_keeper_is_the_naive_one(opening in openings(1), calls in vec(calls(), 1..40)) {
+#[test]
+fn the_keeper_is_the_naive_one() {
+    let met = RefCell::new(Marks::default());
+    let scripts = (openings(1), vec(calls(), 1..60));
+    holds_on(300, &scripts, |(opening, calls)| {
         let mut test = Test::new(opening);
         for call in &calls {
             test.make(call)?;
         }
-    }
+        met.borrow_mut().add(test.marks);
+        Ok(())
+    });
+    let marks = met.into_inner();
+    assert!(marks.least() >= 3, "{marks}");
 }
 
 /// A record, or a listed number, that comes to lie opposite base.
@@ -315,4 +333,36 @@ fn the_model_gives_the_bench_sheet() {
     );
     assert_eq!(model.arrive(256, 0), Ok(1));
     assert_eq!(model.arrive(32_768, 0), Err(Refusal::Span));
+}
+
+/// Document 02's bench case, and both sides of each limit.
+#[test]
+fn the_model_expires_by_its_mark() {
+    let fresh = Secondary::open(Opening {
+        bits: 12,
+        first: 65_534,
+        first_pdcp: 4_095,
+    });
+    for mark in [65_534, 0, 32_765] {
+        assert_eq!(fresh.clone().expire(mark), Err(Refusal::MarkBeyond));
+    }
+    for mark in [32_766, 40_000, 65_533] {
+        assert_eq!(fresh.clone().expire(mark), Err(Refusal::NothingOpen));
+    }
+    assert_eq!(fresh.clone().expire(65_536), Err(Refusal::NumberTooLarge));
+    let mut model = fresh;
+    model.arrive(65_534, 4_095).unwrap();
+    model.arrive(0, 1).unwrap();
+    for mark in [1, 32_766] {
+        assert_eq!(model.expire(mark), Err(Refusal::MarkBeyond));
+    }
+    for mark in [65_535, 65_534, 32_767] {
+        assert_eq!(model.expire(mark), Err(Refusal::NothingOpen));
+    }
+    assert_eq!(model.expire(0), Ok(1));
+    assert_eq!((model.base(), model.listed()), (3, vec![(1, 1)]));
+    model.arrive(5, 2).unwrap();
+    assert_eq!(model.expire(3), Ok(2));
+    assert_eq!((model.base(), model.listed()), (5, vec![(1, 1), (3, 4)]));
+    assert_eq!(model.expire(3), Err(Refusal::NothingOpen));
 }

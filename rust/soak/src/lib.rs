@@ -2,6 +2,7 @@
 
 pub mod compare;
 pub mod frames;
+pub mod marks;
 pub mod moods;
 pub mod naive;
 pub mod options;

@@ -45,7 +45,7 @@ impl Naive {
             Call::Arrive([number, pdcp]) => {
                 format!("lost\t{}", self.secondary.arrive(number, pdcp)?)
             }
-            Call::Expire => format!("lost\t{}", self.secondary.expire()?),
+            Call::Expire(mark) => format!("lost\t{}", self.secondary.expire(mark)?),
             Call::Confirm(number) => {
                 self.secondary.confirm(number)?;
                 "ok".to_owned()

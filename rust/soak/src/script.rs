@@ -3,6 +3,7 @@
 //! nearly full, at the number half a circle away.
 
 use crate::frames;
+use crate::marks::{self, Mark, Marks};
 use crate::order::{Before, Edge, Sends};
 use crate::rng::Rng;
 use crate::sizes::{self, LIMITS, Sizes};
@@ -24,6 +25,8 @@ pub struct Ends {
     pub under_way: VecDeque<(u32, u32)>,
     /// Frames that were built and have not been delivered.
     pub frames: VecDeque<Vec<u8>>,
+    /// The mark of the host's gap timer, while it runs.
+    pub timer: Option<u32>,
 }
 
 impl Ends {
@@ -49,6 +52,8 @@ pub struct Script {
     pub sends: Sends,
     /// What its sends and rooms met of sizes.
     pub sizes: Sizes,
+    /// What its expiries met by their marks.
+    pub marks: Marks,
 }
 
 impl Script {
@@ -72,6 +77,7 @@ impl Script {
             ends: opened(bits, first, first_pdcp),
             sends: Sends::default(),
             sizes: Sizes::default(),
+            marks: Marks::default(),
         };
         script.line(b"open", &[bits, first, first_pdcp]);
         script
@@ -138,9 +144,42 @@ impl Script {
     }
 
     /// An expiry.
-    pub fn expire(&mut self) {
-        let _ = self.ends.keeper.expire();
-        self.line(b"expire", &[]);
+    pub fn expire(&mut self, mark: u32) {
+        let Ends { bearer, keeper, .. } = &mut self.ends;
+        self.marks.expire(bearer.numbers(), keeper, mark);
+        let _ = keeper.expire(mark);
+        self.line(b"expire", &[mark]);
+    }
+
+    /// An expiry with its mark there.
+    pub fn expire_at(&mut self, mark: Mark) {
+        let Ends { bearer, keeper, .. } = &self.ends;
+        self.expire(mark.at(bearer.numbers(), keeper));
+    }
+
+    /// An expiry that gives up every gap.
+    pub fn expire_all(&mut self) {
+        self.expire_at(Mark::Highest(0));
+    }
+
+    /// An expiry with any mark, mostly at a limit or around one.
+    pub fn expire_somewhere(&mut self) {
+        let mark = Mark::some(&mut self.rng);
+        self.expire_at(mark);
+    }
+
+    /// The host's gap timer starts, if there is a gap and it doesn't run.
+    pub fn start_timer(&mut self) {
+        let Ends { bearer, keeper, .. } = &self.ends;
+        let highest = marks::highest_accepted(bearer.numbers(), keeper);
+        self.ends.timer = self.ends.timer.or(highest);
+    }
+
+    /// It ends, if it runs: an expiry with the mark of its start.
+    pub fn end_timer(&mut self) {
+        if let Some(mark) = self.ends.timer.take() {
+            self.expire(mark);
+        }
     }
 
     /// A confirm.
@@ -300,5 +339,6 @@ fn opened(bits: u32, first: u32, first_pdcp: u32) -> Ends {
         ledger: Ledger::open(bits, first, first_pdcp).expect(fits),
         under_way: VecDeque::new(),
         frames: VecDeque::new(),
+        timer: None,
     }
 }

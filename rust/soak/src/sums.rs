@@ -183,7 +183,7 @@ mod tests {
             Some(Moved::LostAndFreed),
         ),
         ("take", Some(Moved::TookLost)),
-        ("expire", None),
+        ("expire\t0", None),
         (
             "accept\t130003000000070000000601000500050000",
             Some(Moved::Lost),

@@ -3,6 +3,7 @@
 use programs::lister;
 use programs::replay::Replay;
 use soak::compare::{Frames, Scripts, Source};
+use soak::marks::Marks;
 use soak::moods;
 use soak::order::Sends;
 use soak::rng::Rng;
@@ -59,16 +60,19 @@ fn scripts_look_at_the_sum_often() {
 }
 
 #[test]
-fn scripts_meet_the_limits_of_the_order_of_sizes_and_of_the_room() {
+fn scripts_meet_the_limits_of_the_order_of_sizes_of_the_room_and_of_marks() {
     let mut rng = Rng::new(7);
     let (mut sends, mut sizes) = (Sends::default(), Sizes::default());
+    let mut marks = Marks::default();
     for _ in 0..300 {
         let script = moods::script(Rng::new(rng.bits()));
         sends.add(script.sends);
         sizes.add(script.sizes);
+        marks.add(script.marks);
     }
     assert!(sends.least() >= 40, "{sends}");
     assert!(sizes.least() >= 40, "{sizes}");
+    assert!(marks.least() >= 40, "{marks}");
 }
 
 #[test]

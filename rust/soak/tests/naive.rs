@@ -1,5 +1,6 @@
 //! The scripts for comparing programs, played on the naive model.
 
+use soak::marks::Marks;
 use soak::moods;
 use soak::naive::alike;
 use soak::order::Sends;
@@ -45,7 +46,7 @@ fn library_and_model_give_the_answers_on_paper() {
             cases += 1;
         }
     }
-    assert!(cases > 35, "{cases} cases");
+    assert!(cases > 45, "{cases} cases");
 }
 
 /// Rests of every length, and sends at the limits of the PDCP order.
@@ -73,6 +74,19 @@ fn the_library_is_the_naive_model_on_sizes() {
         sizes.add(script.sizes);
     }
     assert!(sizes.least() >= 10, "{sizes}");
+}
+
+/// Expiries with marks of every kind, between gaps.
+#[test]
+fn the_library_is_the_naive_model_on_marks() {
+    let mut rng = Rng::new(23);
+    let mut marks = Marks::default();
+    for _ in 0..60 {
+        let script = moods::marked(Rng::new(rng.bits()));
+        let _ = play(&script);
+        marks.add(script.marks);
+    }
+    assert!(marks.least() >= 20, "{marks}");
 }
 
 /// Half a circle of packets, of which every one arrives and is freed. Then a copy

@@ -75,7 +75,7 @@ fn like_programs_are_alike() {
 #[test]
 fn a_difference_is_found_and_shrunk() {
     let folder = folder("different");
-    let liar = liar(&folder, "replay", "s/^refused.17$/refused\\t71/");
+    let liar = liar(&folder, "replay", "s/^refused.19$/refused\\t91/");
     let honest = sibling("replay");
     let arguments = ["replay", text(&honest), text(&liar), "--save", "found"];
     let output = run(COMPARE, &folder, &arguments);
@@ -84,7 +84,7 @@ fn a_difference_is_found_and_shrunk() {
     let lines: Vec<&str> = script.lines().collect();
     assert_eq!(lines.len(), 2, "{script}");
     assert!(lines[0].starts_with("open\t"));
-    assert_eq!(lines[1], "expire");
+    assert!(lines[1].starts_with("expire\t"), "{script}");
 }
 
 #[test]
@@ -109,6 +109,32 @@ fn ramp(folder: &Path, program: &Path, options: &[&str]) -> (Option<i32>, String
     (output.status.code(), report)
 }
 
+/// The figure that ends a line of a report.
+fn figure(report: &str, words: &str) -> u64 {
+    let line = report.lines().find(|line| line.contains(words));
+    let figure = line.and_then(|line| line.rsplit(' ').next());
+    let digits = figure.unwrap_or_default().replace(',', "");
+    digits
+        .parse()
+        .unwrap_or_else(|_| panic!("{words}: {line:?}"))
+}
+
+/// Sees that the marks of expiries saved packets, and that wrong ones were met.
+fn expired_by_marks(report: &str, met: &str) {
+    for refusal in [
+        "10  number past its circle",
+        "19  mark past all",
+        "17  no open number before",
+    ] {
+        assert!(met.contains(&format!("expire    {refusal}")), "{met}");
+    }
+    // In half a minute hundreds of packets come while a timer runs.
+    assert!(figure(report, "good packets saved") > 0, "{report}");
+    assert_eq!(figure(report, "youngest gap"), 30, "{report}");
+    let sum = "together, all spared by a mark";
+    assert!(report.contains(sum), "{report}");
+}
+
 #[test]
 fn a_short_ramp_passes_and_is_drawn() {
     let folder = folder("ramp");
@@ -123,6 +149,7 @@ fn a_short_ramp_passes_and_is_drawn() {
         // Some of these rests begin while packets wait, which are then in front.
         assert!(met.contains("35  PDCP order"), "{met}");
         assert!(met.contains("39  size of 0 or above"), "{met}");
+        expired_by_marks(&report, met);
         assert!(report.contains("together, all rests"), "{report}");
         assert!(
             report.contains("together, all PDCP numbers used"),
@@ -132,6 +159,7 @@ fn a_short_ramp_passes_and_is_drawn() {
         let (_, untested) = report.split_once("Not tested in this run").unwrap();
         assert!(!untested.contains("A rest of more than"), "{untested}");
         assert!(!untested.contains("A room "), "{untested}");
+        assert!(!untested.contains("saved"), "{untested}");
         let chart = fs::read_to_string(folder.join("ramp.svg")).unwrap();
         assert!(chart.starts_with("<svg") && chart.trim_end().ends_with("</svg>"));
     }

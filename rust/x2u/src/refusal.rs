@@ -36,10 +36,13 @@ pub enum Refusal {
     RecordsFull = 15,
     /// No record of that number before base that is still unconfirmed.
     NotConfirmable = 16,
-    /// No open number below the highest accepted.
+    /// No open number before the mark.
     NothingOpen = 17,
     /// The number lies opposite base: forward to it is exactly M/2.
     Opposite = 18,
+    /// The mark lies at or past base, and past the highest accepted or with
+    /// nothing accepted from base on.
+    MarkBeyond = 19,
     /// The buffer is shorter than the frame.
     BufferShort = 20,
     /// Final asked while more runs are listed than a frame carries.
@@ -64,7 +67,7 @@ pub enum Refusal {
 
 impl Refusal {
     /// Every refusal, in rising order of number.
-    pub const ALL: [Self; 27] = [
+    pub const ALL: [Self; 28] = [
         Self::FrameLength,
         Self::ReservedType,
         Self::FieldsCut,
@@ -82,6 +85,7 @@ impl Refusal {
         Self::NotConfirmable,
         Self::NothingOpen,
         Self::Opposite,
+        Self::MarkBeyond,
         Self::BufferShort,
         Self::FinalTooEarly,
         Self::NotOurStatus,

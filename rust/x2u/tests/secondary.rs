@@ -55,7 +55,9 @@ fn a_closed_end_refuses_everything() {
     for (number, pdcp) in [(u32::MAX, u32::MAX), (opposite, 0), (opposite + 1, 0)] {
         refused(&mut keeper, Refusal::Closed, |k| k.arrive(number, pdcp));
     }
-    refused(&mut keeper, Refusal::Closed, Keeper::expire);
+    for mark in [0, keeper.base(), opposite, 65_536, u32::MAX] {
+        refused(&mut keeper, Refusal::Closed, |k| k.expire(mark));
+    }
     refused(&mut keeper, Refusal::Closed, |k| k.confirm(u32::MAX));
     refused(&mut keeper, Refusal::Closed, |k| {
         k.status(0, 0, true, &mut [])
@@ -99,7 +101,7 @@ fn overtaken_packets_are_sorted_in() {
     assert_eq!(numbers, [65_531, 65_533, 65_535, 0, 2]);
     assert_eq!(keeper.arrive(65_530, 0), Ok(0));
     assert_eq!(keeper.base(), 65_532);
-    assert_eq!(keeper.expire(), Ok(3));
+    assert_eq!(keeper.expire(2), Ok(3));
     let expected = [run(65_532, 65_532), run(65_534, 65_534), run(1, 1)];
     assert_eq!(keeper.listed_runs(), expected);
     assert_eq!(keeper.base(), 3);
@@ -123,12 +125,12 @@ fn runs_fill_to_256() {
     let mut keeper = keeper_with_runs(12, 256);
     let next = keeper.base() + 1;
     keeper.arrive(next, 0).unwrap();
-    refused(&mut keeper, Refusal::RunsFull, Keeper::expire);
+    refused(&mut keeper, Refusal::RunsFull, |k| k.expire(next));
     refused(&mut keeper, Refusal::RunsFull, |k| k.arrive(next + 300, 0));
     // An arrival that loses nothing is still taken, and reporting makes room.
     assert_eq!(keeper.arrive(next + 2, 0), Ok(0));
     status(&mut keeper, false).unwrap();
-    assert_eq!(keeper.expire(), Ok(2));
+    assert_eq!(keeper.expire(next + 2), Ok(2));
 }
 
 #[test]
@@ -184,17 +186,6 @@ fn confirm_refuses() {
 }
 
 #[test]
-fn expiry_needs_an_open_number_below() {
-    let mut keeper = Keeper::open(12, 0, 0).unwrap();
-    refused(&mut keeper, Refusal::NothingOpen, Keeper::expire);
-    keeper.arrive(0, 0).unwrap();
-    refused(&mut keeper, Refusal::NothingOpen, Keeper::expire);
-    keeper.arrive(2, 0).unwrap();
-    assert_eq!(keeper.expire(), Ok(1));
-    refused(&mut keeper, Refusal::NothingOpen, Keeper::expire);
-}
-
-#[test]
 fn status_leaves_a_short_buffer_alone() {
     let mut keeper = keeper_with_runs(18, 1);
     let mut buffer = [0x5A; 21];
@@ -234,8 +225,9 @@ fn half_way_round(pdcp_bits: u32, first: u32, first_is_lost: bool) -> (Keeper, u
     if !first_is_lost {
         keeper.arrive(first, 0).unwrap();
     }
-    keeper.arrive((base + size - 1) % size, 1).unwrap();
-    keeper.expire().unwrap();
+    let newest = (base + size - 1) % size;
+    keeper.arrive(newest, 1).unwrap();
+    keeper.expire(newest).unwrap();
     assert_eq!(keeper.base(), base);
     (keeper, base)
 }

@@ -1,4 +1,4 @@
-//! Document 01's bench sheet as requests One, Three and Four left it, line by line.
+//! Document 01's bench sheet as requests One, Three, Four and Six left it, line by line.
 
 mod common;
 
@@ -99,7 +99,7 @@ fn rolled_over() -> Keeper {
     let mut keeper = keeper(12, 65_534, 4_095);
     assert_eq!(keeper.arrive(65_534, 4_095), Ok(0));
     assert_eq!(keeper.arrive(0, 1), Ok(0));
-    assert_eq!(keeper.expire(), Ok(1));
+    assert_eq!(keeper.expire(0), Ok(1));
     assert_eq!(keeper.base(), 1);
     assert_eq!(keeper.listed_runs(), [run(65_535, 65_535)]);
     keeper

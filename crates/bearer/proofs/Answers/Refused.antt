@@ -14,7 +14,6 @@ use Rattle.circle.specs.Sides.{Side, same, ahead, behind, opposite, lies}
 use Rattle.circle.specs.Lengths.{isLong, pdcps, modulusOf}
 use Rattle.frame_layout.specs.Frames.{Status, Reading, data-of, status-of, refuse, readFrame}
 use Rattle.bearer.specs.Bearer.{After, Keeps, refusing, answering, mostRuns, mostRecords, mostEntries}
-use Rattle.bearer.specs.Losses.{topOf}
 use Rattle.bearer.specs.Keeper as K
 use Rattle.bearer.specs.Ledger as G
 
@@ -87,14 +86,16 @@ arrive-keeps k n p =
     (either-keeps k (not (ltb n (modulusOf (k .bits)) and ltb p (pdcps (k .bits)))) _ _ (refusal-keeps _ k _)
     (arrive-by-keeps k n p (lies (modulusOf (k .bits)) (k .base) n)))
 
-expire-below-keeps : (k : K.Keeper) (top : ℕ) → Keeps k (K.expireBelow k top)
-expire-below-keeps k top =
-    either-keeps k (eqb top 0) _ _ (refusal-keeps _ k _)
-    (either-keeps k (ltb mostRuns (length (K.runsAfter k top))) _ _ (refusal-keeps _ k _) (answer-keeps k _ _))
+expire-below-keeps : (k : K.Keeper) (d : ℕ) → Keeps k (K.expireBelow k d)
+expire-below-keeps k d =
+    either-keeps k (ltb mostRuns (length (K.runsAfter k d))) _ _ (refusal-keeps _ k _) (answer-keeps k _ _)
 
-pub expire-keeps : (k : K.Keeper) → Keeps k (K.expire k)
-expire-keeps k =
-    either-keeps k (k .closed) _ _ (refusal-keeps _ k _) (expire-below-keeps k (topOf (modulusOf (k .bits)) (k .base) (K.held k)))
+pub expire-keeps : (k : K.Keeper) (n : ℕ) → Keeps k (K.expire k n)
+expire-keeps k n =
+    either-keeps k (k .closed) _ _ (refusal-keeps _ k _)
+    (either-keeps k (leb (modulusOf (k .bits)) n) _ _ (refusal-keeps _ k _)
+    (either-keeps k (K.markBeyond k n) _ _ (refusal-keeps _ k _)
+    (either-keeps k (K.nonePrecedes k n) _ _ (refusal-keeps _ k _) (expire-below-keeps k _))))
 
 confirm-at-keeps : (k : K.Keeper) (n i : ℕ) → Keeps k (K.confirmAt k n i)
 confirm-at-keeps k n i =

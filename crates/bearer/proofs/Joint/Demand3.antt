@@ -27,7 +27,7 @@ use Rattle.bearer.proofs.Joint.Reporting.{joint-status}
 use Rattle.bearer.proofs.Joint.Confirming.{joint-confirm}
 use Rattle.bearer.proofs.Joint.Copies.{joint-answers}
 use Rattle.bearer.proofs.Joint.Arriving.{joint-copy}
-use Rattle.bearer.proofs.Joint.Expiring.{joint-expire}
+use Rattle.bearer.proofs.Joint.Expiring.{joint-expire, joint-expiries}
 
 -- ---- open
 
@@ -77,7 +77,7 @@ joint-step : {L first : ℕ} {w : World} → isLength L ≡ true → Joint L fir
 joint-step ok j (send p z) h = joint-send ok j p z
 joint-step ok j (copy i) h = joint-copy ok j i (h .0) (h .1)
 joint-step ok j (stray n p) h = joint-stray j n p h
-joint-step ok j expire h = joint-expire ok j
+joint-step ok j (expire n) h = joint-expire ok j n
 joint-step ok j (confirm n) h = joint-confirm ok j n
 joint-step ok j (status d m final buffer) h = joint-status ok j d m final buffer h
 joint-step ok j deliver h = joint-deliver ok j
@@ -96,6 +96,7 @@ joint-keeps ok j = record {
   accepted = joint-accepts ok j;
   freed-exactly = joint-freed j;
   copies-answered = joint-answers ok j;
+  expiries-answered = joint-expiries ok j;
   final-closes = j .closes;
 }
 

@@ -6,7 +6,7 @@ use mathlib.Core.Bool.{Bool, true, false, not}
 use Prim.Native.Nat.{ℕ, _+_, _-_, _/_, _%_, _≤_, _<_}
 use native.Mathlib.Omega.{arith}
 use native.Mathlib.Nat.{add-assoc, add-zero, mod-add-mod, mod-eq-of-lt}
-use borrow.Author.Tests.{ltb-true, ltb-false, leb-true, leb-false, eqb-true, eqb-false, lt-ltb, le-ltb, le-leb, lt-leb}
+use borrow.Author.Tests.{ltb-true, ltb-false, leb-true, leb-false, eqb-true, eqb-false, eq-eqb, ne-eqb, lt-ltb, le-ltb, le-leb, lt-leb}
 use lib.Dec.{ltb, leb, eqb}
 use Rattle.basics.specs.Basics.{if_then_else_}
 use Rattle.basics.proofs.Choices.{contrary, eqb-alike}
@@ -15,7 +15,7 @@ use Rattle.circle.specs.Circle.{forward}
 use Rattle.circle.specs.Sides.{Side, same, ahead, behind, opposite, lies, Told, side-told, told-one}
 use Rattle.circle.specs.Lengths.{modulusOf, half, isLong}
 use Rattle.circle.proofs.Forms.{modulus-bounds, halves}
-use Rattle.bearer.specs.Losses.{isBefore, before, isAhead, aheadOf, fromOn, farBehind, farPast}
+use Rattle.bearer.specs.Losses.{isBefore, before, isAhead, aheadOf, fromOn, farBehind}
 
 -- ---- the two circles
 
@@ -37,6 +37,36 @@ not-before L a n = by (lies (modulusOf L) a n) (side-told (half L) (forward (mod
     by ahead t e = t .1
     by behind t e = absurd (contrary refl e)
     by opposite t e = absurd (contrary refl e)
+
+-- one that does is half the circle or more forward from it
+pub is-before : (L a n : ℕ) → before (modulusOf L) a n ≡ true → half L ≤ forward (modulusOf L) a n
+is-before L a n = by (lies (modulusOf L) a n) (side-told (half L) (forward (modulusOf L) a n))
+  where
+    by : (s : Side) → Told (half L) (forward (modulusOf L) a n) s → isBefore s ≡ true → half L ≤ forward (modulusOf L) a n
+    by same t e = absurd (contrary e refl)
+    by ahead t e = absurd (contrary e refl)
+    by behind t e = omega arith
+    by opposite t e = omega arith
+
+-- one ahead of another doesn't lie before it, nor is it the same
+pub ahead-past : (L a n : ℕ) → before (modulusOf L) a n ≡ false → not (aheadOf (modulusOf L) a n) ≡ eqb (forward (modulusOf L) a n) 0
+ahead-past L a n = by (lies (modulusOf L) a n) (side-told (half L) (forward (modulusOf L) a n))
+  where
+    by : (s : Side) → Told (half L) (forward (modulusOf L) a n) s → isBefore s ≡ false → not (isAhead s) ≡ eqb (forward (modulusOf L) a n) 0
+    by same t e = sym (eq-eqb (forward (modulusOf L) a n) 0 t)
+    by ahead t e = sym (ne-eqb (forward (modulusOf L) a n) 0 (λ z. omega (arith, t .0)))
+    by behind t e = absurd (contrary refl e)
+    by opposite t e = absurd (contrary refl e)
+
+-- and one that lies before it isn't
+pub never-ahead : (M a n : ℕ) → before M a n ≡ true → not (aheadOf M a n) ≡ true
+never-ahead M a n = by (lies M a n)
+  where
+    by : (s : Side) → isBefore s ≡ true → not (isAhead s) ≡ true
+    by same e = refl
+    by ahead e = absurd (contrary e refl)
+    by behind e = refl
+    by opposite e = refl
 
 -- how packet j lies to packet i, from h before it up to, and without, h past it
 abbrev pub sideI : ℕ → ℕ → ℕ → Side
@@ -147,11 +177,3 @@ module _ (M first : ℕ) (pos : 0 < M) where
         by : (b : Bool) → ltb j i ≡ b → (if b then forward M (on M first j) (on M first i) else 0) ≡ i - j
         by true e = let h : j < i = ltb-true j i e in to-later j i (omega arith) (omega arith)
         by false e = omega (arith, ltb-false j i e)
-
-    -- how far past it
-    pub beyond-is : farPast M (on M first i) (on M first j) ≡ j - i
-    beyond-is = rw before-is (by (ltb j i) refl)
-      where
-        by : (b : Bool) → ltb j i ≡ b → (if b then 0 else forward M (on M first i) (on M first j)) ≡ j - i
-        by true e = omega (arith, ltb-true j i e)
-        by false e = let h : i ≤ j = ltb-false j i e in to-later i j h (omega arith)

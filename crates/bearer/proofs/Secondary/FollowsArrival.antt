@@ -22,12 +22,12 @@ use Rattle.bearer.specs.Account.{Held, packetsOf, runsIn, indexes}
 use Rattle.bearer.proofs.Lists.Mapped.{each-so}
 use Rattle.bearer.proofs.Lists.Elements.{in-head, in-tail, in-cons, in-left, in-right, in-one, in-last, in-drop, rising-head, rising-append, rising-drop, from-front, behind-front, each-inserted, in-inserted, inserted-in, rising-inserted}
 use Rattle.bearer.proofs.Answers.Accepted.{not-refused}
-use Rattle.bearer.proofs.Secondary.Index.{Indexed, froms, firstBack, floorI, placeI, pastBase, runsAfterI, baseAfterI, givenUpI, gapAt, newHeld, arrivedBaseI, arrivedI, hasI, arriveI}
+use Rattle.bearer.proofs.Secondary.Index.{Indexed, froms, firstBack, floorI, placeI, pastBase, runsAfterI, raisedBaseI, givenUpI, gapAt, newHeld, arrivedBaseI, arrivedI, hasI, arriveI}
 use Rattle.bearer.proofs.Secondary.Open.{open-is, open-unreceived}
 use Rattle.bearer.proofs.Secondary.Gaps.{lowest-shift}
 use Rattle.bearer.proofs.Secondary.Runs.{maximal-rising}
 use Rattle.bearer.proofs.Secondary.Follows.{marks, mark-record, in-marks, Follows, follows-has, record-received, record-near, recorded, not-lost, floor-marks}
-use Rattle.bearer.proofs.Secondary.GivenUp.{lost-count, above, Receives, Advances, Records, advances, above-rising, in-above, above-in, base-after-lowest, declared, step-listed, follows-step}
+use Rattle.bearer.proofs.Secondary.GivenUp.{lost-count, above, Receives, Advances, Records, advances, above-rising, in-above, above-in, raised-base-lowest, declared, step-listed, follows-step}
 
 -- base is no further past an element than past the first
 first-back : (b : ℕ) (xs : List ℕ) → Rising xs → (f : ℕ) → In f xs → b ≤ f + firstBack b xs
@@ -81,9 +81,9 @@ module _ {h : ℕ} {a : Indexed} {r : Fates} {told : ℕ} (F : Follows h a r tol
   }
 
   -- base is given up: it moves past the records that adjoin the limit
-  base-goes : window ≤ d → Advances h a (got a r d) (limitOf d) (baseAfterI a (limitOf d) d)
+  base-goes : window ≤ d → Advances h a (got a r d) (limitOf d) (raisedBaseI a (limitOf d) d)
   base-goes far =
-      rw (base-after-lowest F (limitOf d) d)
+      rw (raised-base-lowest F (limitOf d) d)
       (advances (a .base + limitOf d) (above a ++ ((a .base + d) ∷ []))
       (rising-append (a .base + d) (above a) ((a .base + d) ∷ []) (above-rising F) tt
       (λ j t. omega (arith, record-near F j (above-in F j t))) (λ j t. omega (arith, in-one j (a .base + d) t)))

@@ -180,7 +180,3 @@ least c (o ∷ os) r = by (eqb o c) refl (λ d. least d os (rising-tail o os r))
             (λ g. omega (arith, rising-head o os r c (between c (omega arith) (omega (arith, ltb-true c o g)))))
             (λ g. eqb-false o c e (omega (arith, ltb-false c o g)))
             (tested (ltb c o))
-
-pub lowest-append : (c : ℕ) (xs ys : List ℕ) → lowest c (xs ++ ys) ≡ lowest (lowest c xs) ys
-lowest-append c [] ys = refl
-lowest-append c (x ∷ xs) ys = lowest-append (if eqb x c then suc c else c) xs ys

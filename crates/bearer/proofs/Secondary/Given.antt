@@ -4,39 +4,41 @@
 use mathlib.Core.Path.{_≡_, refl, sym, _∙_, ap, subst}
 use mathlib.Core.Bool.{Bool, true, false, not}
 use mathlib.Core.List.{List, [], _∷_}
-use mathlib.Core.Logic.{inl, inr}
-use Prim.Native.Nat.{ℕ, _+_, _<_}
-use borrow.Author.Tests.{ltb-true, leb-false, eqb-false, not-false}
-use lib.Dec.{ltb, leb, eqb}
+use mathlib.Core.Logic.{inl, inr, ⊎-elim}
+use Prim.Native.Nat.{ℕ, _+_, _≤_, _<_}
+use native.Mathlib.Omega.{arith}
+use borrow.Author.Tests.{ltb-true, leb-false, not-false}
+use lib.Dec.{ltb, leb}
 use lib.ListN.{length, drop, length-map}
 use Rattle.basics.specs.Basics.{Outcome, if_then_else_, _and_, done, refused}
 use Rattle.basics.specs.Refusals.{Refusal, _when_, Given}
-use Rattle.basics.proofs.Choices.{contrary, and-true}
+use Rattle.basics.proofs.Choices.{tested, contrary, and-true}
 use Rattle.basics.proofs.Refusals.{Says, says-below, says-at-most, says-holds, says-and, says-past, given-of, given-by}
 use Rattle.circle.specs.Sides.{Side, same, ahead, behind, opposite}
 use Rattle.circle.specs.Lengths.{isLength, modulusOf, half, pdcps}
 use Rattle.frame_layout.specs.Frames.{Written, mostRanges, statusOctets, place, writeStatus}
-use Rattle.bearer.specs.Bearer.{After, mostRuns, mostRecords}
-use Rattle.bearer.specs.Losses.{isBefore}
+use Rattle.bearer.specs.Bearer.{After, refusing, mostRuns, mostRecords}
+use Rattle.bearer.specs.Losses.{isBefore, before}
 use Rattle.bearer.specs.Keeper as K
 use Rattle.bearer.specs.Keeper.{limitOf}
 use Rattle.bearer.specs.Rule.{arrival, expiry}
-use Rattle.bearer.specs.Packets.{forwardFrom, numberOf, liesFrom}
-use Rattle.bearer.specs.Account.{Account, runAt, listed, statusOf}
+use Rattle.bearer.specs.Packets.{forwardFrom, numberOf, markOf, liesFrom}
+use Rattle.bearer.specs.Account.{Account, indexes, runAt, listed, statusOf}
 use Rattle.bearer.specs.KeeperMeaning.{Reached, packetAt}
-use Rattle.bearer.specs.Refusals.{openRefusals, arrivalRefusals, expiryRefusals, confirmRefusals, statusRefusals, OpensGiven, CallsGiven, SecondaryGiven}
-use Rattle.bearer.proofs.Lists.Numbers.{positive, not-before, lands}
+use Rattle.bearer.specs.Refusals.{openRefusals, arrivalRefusals, expiryRefusals, confirmRefusals, statusRefusals, MarkBeyond, NoneToExpire, OpensGiven, CallsGiven, SecondaryGiven}
+use Rattle.bearer.proofs.Lists.Numbers.{positive, is-before, not-before, never-ahead, lands}
 use Rattle.bearer.proofs.Answers.Given.{says-length, says-number, call-by, one-test}
 use Rattle.bearer.proofs.Secondary.Index.{Indexed, image, imageAfter, floorI, placeI, hasI, runsAfterI, arriveI}
 use Rattle.bearer.proofs.Secondary.Image.{image-arrive-on, image-expire-below}
 use Rattle.bearer.proofs.Secondary.Follows.{Follows, follows-has}
 use Rattle.bearer.proofs.Secondary.FollowsArrival.{arrival-listed}
-use Rattle.bearer.proofs.Secondary.FollowsExpiry.{top, expiry-listed}
+use Rattle.bearer.proofs.Secondary.FollowsExpiry.{not-beyond, expiry-listed}
 use Rattle.bearer.proofs.Secondary.FollowsMeans.{follows-reach}
+use Rattle.bearer.proofs.Secondary.MarkOf.{mark-is, mark-before, bears, beyond-test, none-test, never-beyond}
 use Rattle.bearer.proofs.Secondary.Accounts.{indexedOf}
 use Rattle.bearer.proofs.Secondary.KeeperMeans.{indexed, base-is}
 use Rattle.bearer.proofs.Secondary.StatusesFit.{statuses-fit}
-use Rattle.bearer.proofs.Secondary.Sentences.{says-has, says-span, says-runs, says-nothing, notToConfirm, says-confirm}
+use Rattle.bearer.proofs.Secondary.Sentences.{says-has, says-span, says-runs, says-beyond, says-nothing, notToConfirm, says-confirm}
 
 -- ---- open: 7, 10
 
@@ -108,15 +110,55 @@ module _ (L first : ℕ) {base : ℕ} {a : Account} (F : Follows (half L) (index
           let small = ltb-true n (modulusOf L) (and-true (ltb n (modulusOf L)) (ltb p (pdcps L)) (not-false (ltb n (modulusOf L) and ltb p (pdcps L)) numbers) .0) in
           subst (λ (x : After K.Keeper ℕ). Given (drop 4 (arrivalRefusals L first a base n p)) (x .answer)) (sym (at small near)) (arrive-at-given n p small near)
 
-  -- 9, 17, 14
-  expire-given : Given (expiryRefusals a) (K.expire k .answer)
-  expire-given =
-      let rs = expiryRefusals a in
+  module _ (n : ℕ) (small : n < modulusOf L) where
+    -- the packet that the mark names, and how far the mark is forward from base
+    abbrev mark : ℕ
+    mark = markOf L first n (a .fates)
+
+    abbrev d : ℕ
+    d = forwardFrom L first base n
+
+    -- the calls' answer from 19 on
+    abbrev Rest : Type 0
+    Rest = Given (drop 2 (expiryRefusals L first a base n)) ((if K.markBeyond k n then refusing 19 k else if K.nonePrecedes k n then refusing 17 k else K.expireBelow k d) .answer)
+
+    -- 19, 17, 14, of a mark that doesn't lie before base
+    mark-on-given : before (modulusOf L) (numberOf L first base) n ≡ false → Rest
+    mark-on-given on =
+        let rs = expiryRefusals L first a base n in
+        let near = not-before L (numberOf L first base) n on in
+        let beyond = beyond-test L first F n small on in
+        call-by (K.markBeyond k n) 19 (drop 3 rs) k _ (subst (λ (t : Bool). Says t (MarkBeyond L first (a .fates) base n)) (sym beyond) (says-beyond L first F n near))
+        (λ e.
+        let w = not-beyond base (indexes (a .records)) (base + d) (sym beyond ∙ e) in
+        let named = mark-is L first F n d (bears L first F n small on) w in
+        call-by (K.nonePrecedes k n) 17 (drop 4 rs) k _
+        (subst (λ (t : Bool). Says t (NoneToExpire (a .fates) mark)) (sym (none-test L first F n small on)) (says-nothing L first F d mark named))
+        (λ _. subst (λ (x : After K.Keeper ℕ). Given (drop 4 rs) (x .answer)) (sym (image-expire-below L first s (follows-reach F) d (omega arith)))
+        (call-by (ltb mostRuns (length (runsAfterI s d))) 14 [] s _ (says-runs L first F (expiry (a .fates) mark) d (rw named (expiry-listed F d w)))
+        (λ _. refl))))
+
+    -- of one that does: not 19, and 17
+    mark-before-given : before (modulusOf L) (numberOf L first base) n ≡ true → Rest
+    mark-before-given e =
+        let rs = expiryRefusals L first a base n in
+        let far = is-before L (numberOf L first base) n e in
+        let low : mark ≤ base = mark-before L first F n far in
+        call-by (K.markBeyond k n) 19 (drop 3 rs) k _
+        (record { there = λ t. absurd (contrary t (never-beyond L first F n e)); back = λ beyond. absurd (omega (arith, beyond .0)) })
+        (λ _. call-by (K.nonePrecedes k n) 17 (drop 4 rs) k _
+        (record { there = λ _ i l. F .fates .lowest .none-below i (omega arith); back = λ _. never-ahead (modulusOf L) (numberOf L first base) n e })
+        (λ some. absurd (contrary (never-ahead (modulusOf L) (numberOf L first base) n e) some)))
+
+  -- 9, 10, and then by whether the mark lies before base
+  expire-given : (n : ℕ) → Given (expiryRefusals L first a base n) (K.expire k n .answer)
+  expire-given n =
+      let rs = expiryRefusals L first a base n in
       call-by (a .final) 9 (drop 1 rs) k _ (says-holds refl)
-      (λ _. subst (λ (x : After K.Keeper ℕ). Given (drop 1 rs) (x .answer)) (sym (image-expire-below L first s (follows-reach F)))
-      (call-by (eqb (top s) 0) 17 (drop 2 rs) s _ (says-nothing L first F)
-      (λ some. call-by (ltb mostRuns (length (runsAfterI s (top s)))) 14 [] s _ (says-runs L first F (expiry (a .fates)) (top s) (expiry-listed F (eqb-false (top s) 0 some)))
-      (λ _. refl))))
+      (λ _. call-by (leb (modulusOf L) n) 10 (drop 2 rs) k _ (says-at-most (modulusOf L) n)
+      (λ number.
+      let small = leb-false (modulusOf L) n number in
+      ⊎-elim (mark-before-given n small) (mark-on-given n small) (tested (before (modulusOf L) (numberOf L first base) n))))
 
   -- 9, 10, 16
   confirm-given : (n : ℕ) → Given (confirmRefusals L first a base n) (K.confirm k n .answer)
@@ -152,7 +194,7 @@ calls-given {L} {first} {f} {k} {a} x =
     let back = sym (i .state-is) in
     record {
       arrivals = λ n p. subst (λ (y : K.Keeper). Given (arrivalRefusals L first a (i .base) n p) (K.arrive y n p .answer)) back (arrive-given L first (i .follows) n p);
-      expiries = subst (λ (y : K.Keeper). Given (expiryRefusals a) (K.expire y .answer)) back (expire-given L first (i .follows));
+      expiries = λ n. subst (λ (y : K.Keeper). Given (expiryRefusals L first a (i .base) n) (K.expire y n .answer)) back (expire-given L first (i .follows) n);
       confirms = λ n. subst (λ (y : K.Keeper). Given (confirmRefusals L first a (i .base) n) (K.confirm y n .answer)) back (confirm-given L first (i .follows) n);
       statuses = λ d m final buffer.
           subst (λ (y : K.Keeper). Given (statusRefusals L first a d m final buffer) (K.status y d m final buffer .answer)) back

@@ -22,7 +22,7 @@ use Rattle.bearer.specs.Account.{Held, packetsFrom, packetsOf, Maximal, 
 use Rattle.bearer.proofs.Lists.Mapped.{each-so, Below, gaps-below}
 use Rattle.bearer.proofs.Lists.Elements.{in-left, in-right, in-append, in-last, in-drop, each-in, in-each, rising-append, rising-drop, front, from-front, behind-front}
 use Rattle.bearer.proofs.Lists.Rows.{in-packets, packets-in, rising-packets}
-use Rattle.bearer.proofs.Secondary.Index.{Indexed, _with-base_, _with-runs_, _with-records_, froms, pastBase, aboveI, givenUpI, gapAt, runsAfterI, baseAfterI}
+use Rattle.bearer.proofs.Secondary.Index.{Indexed, _with-base_, _with-runs_, _with-records_, froms, pastBase, aboveI, givenUpI, gapAt, runsAfterI, baseAfterI, raisedBaseI}
 use Rattle.bearer.proofs.Secondary.Open.{open-is, open-unreceived, received-closed, lost-closed, closed, only-alike, in-only, only-in, rising-only, open-from}
 use Rattle.bearer.proofs.Secondary.Gaps.{gaps-shift, lowest-shift, size-packets, gaps-packets, least}
 use Rattle.bearer.proofs.Secondary.Runs.{gaps-from, gaps-maximal, each-with-runs, packets-with-runs, maximal-with-runs}
@@ -117,9 +117,13 @@ module _ {h : ℕ} {a : Indexed} {r : Fates} {told : ℕ} (F : Follows h a r tol
   pub lost-gaps-maximal : (l : ℕ) → Maximal (lostGaps a l)
   lost-gaps-maximal l = rw (lost-gaps-are l) (gaps-maximal (a .base) (a .base + l) (above a) above-rising above-from)
 
-  -- where base comes to stand when all below base + l is given up and base + t has a record
-  pub base-after-lowest : (l t : ℕ) → baseAfterI a l t ≡ lowest (a .base + l) (above a ++ ((a .base + t) ∷ []))
-  base-after-lowest l t =
+  -- where base comes to stand when all below base + l is given up
+  pub base-after-lowest : (l : ℕ) → baseAfterI a l ≡ lowest (a .base + l) (above a)
+  base-after-lowest l = lowest-shift (a .base) l (above a) above-from
+
+  -- ... and base + t has a record
+  pub raised-base-lowest : (l t : ℕ) → raisedBaseI a l t ≡ lowest (a .base + l) (above a ++ ((a .base + t) ∷ []))
+  raised-base-lowest l t =
       let e : a .base + t - a .base ≡ t = omega arith in
       let shifted : pastBase (a .base) (above a ++ ((a .base + t) ∷ [])) ≡ aboveI a ++ (t ∷ []) =
       map-append (λ (j : ℕ). j - a .base) (above a) ((a .base + t) ∷ []) ∙ rw e in

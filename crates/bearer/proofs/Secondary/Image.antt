@@ -11,13 +11,13 @@ use borrow.Author.Tests.{leb-false, lt-ltb, le-ltb}
 use lib.Dec.{ltb, leb, eqb}
 use lib.ListN.{length, length-map}
 use Rattle.basics.specs.Basics.{if_then_else_, done}
-use Rattle.basics.proofs.Choices.{tested, contrary, otherwise, chosen, choice, never-done}
+use Rattle.basics.proofs.Choices.{tested, contrary, chosen, choice, never-done}
 use Rattle.basics.proofs.Lists.{map-inserted}
 use Rattle.circle.specs.Circle.{forward}
 use Rattle.circle.specs.Sides.{Side, same, ahead, behind, opposite, lies}
 use Rattle.circle.specs.Lengths.{modulusOf, half, pdcps, pdcpBefore}
 use Rattle.bearer.specs.Bearer.{mostRecords, refusing, answering}
-use Rattle.bearer.specs.Losses.{isBefore, topOf, sizeOf}
+use Rattle.bearer.specs.Losses.{isBefore, sizeOf}
 use Rattle.bearer.specs.Keeper as K
 use Rattle.bearer.specs.Keeper.{limitOf, _with-base_, _with-runs_, _with-records_}
 use Rattle.bearer.specs.Packets.{numberOf}
@@ -25,8 +25,8 @@ use Rattle.bearer.specs.Account.{indexes}
 use Rattle.bearer.specs.KeeperMeaning.{recordAt}
 use Rattle.bearer.proofs.Lists.Mapped.{front-within}
 use Rattle.bearer.proofs.Lists.Numbers.{first-number, whole, positive, to-later, lies-is, before-is}
-use Rattle.bearer.proofs.Secondary.Index.{Indexed, freshIndexed, image, imageAfter, floorI, placeI, newHeld, arrivedI, arriveI, topI, expireI}
-use Rattle.bearer.proofs.Secondary.ImageState.{floor-is, place-is, given-up-is, runs-after-are, many-runs-are, base-after-is, arrived-base-is, has-is, has-at-place, top-is, top-near}
+use Rattle.bearer.proofs.Secondary.Index.{Indexed, freshIndexed, image, imageAfter, floorI, placeI, newHeld, arrivedI, arriveI, expireI}
+use Rattle.bearer.proofs.Secondary.ImageState.{floor-is, place-is, given-up-is, runs-after-are, many-runs-are, base-after-is, arrived-base-is, has-is, has-at-place}
 pub use Rattle.bearer.proofs.Secondary.ImageState.{InReach}
 
 -- a fresh end is that of the machine on indexes
@@ -140,19 +140,9 @@ module _ (L first : ℕ) (a : Indexed) (reach : InReach L a) where
       (before-is (modulusOf L) first (positive L) (whole L) (a .base) (a .base + d) (omega arith) (omega arith) ∙ le-ltb (a .base + d) (a .base) (omega arith))
       ∙ image-arrive-on d pdcp h
 
-  expire-below-is : (top : ℕ) → top ≤ half L → K.expireBelow (image L first a) top ≡ imageAfter L first (expireI a top)
-  expire-below-is top h =
-      choice (imageAfter L first) {t = eqb top 0} refl refl
-      (choice (imageAfter L first) (many-runs-are L first a reach top h) refl
-      (λ i. answering (sizeOf (given-up-is L first a reach top i))
-      (image L first a with-base base-after-is L first a reach top top i with-runs runs-after-are L first a reach top h i)))
-
-  -- an expiry of an open end
-  pub image-expire-below : K.expireBelow (image L first a) (topOf (modulusOf L) (numberOf L first (a .base)) (K.held (image L first a)))
-      ≡ imageAfter L first (expireI a (topI (a .base) (indexes (a .records))))
-  image-expire-below =
-      ap (K.expireBelow (image L first a)) (top-is L first a reach)
-      ∙ expire-below-is (topI (a .base) (indexes (a .records))) (top-near L first a reach)
-
-  pub image-expire : a .closed ≡ false → K.expire (image L first a) ≡ imageAfter L first (expireI a (topI (a .base) (indexes (a .records))))
-  image-expire not-closed = otherwise _ _ not-closed ∙ image-expire-below
+  -- an expiry of what is open below a distance, at most half the circle on
+  pub image-expire-below : (d : ℕ) → d ≤ half L → K.expireBelow (image L first a) d ≡ imageAfter L first (expireI a d)
+  image-expire-below d h =
+      choice (imageAfter L first) (many-runs-are L first a reach d h) refl
+      (λ i. answering (sizeOf (given-up-is L first a reach d i))
+      (image L first a with-base base-after-is L first a reach d i with-runs runs-after-are L first a reach d h i))

@@ -2,20 +2,21 @@
 -- each distance, place, gap and run of specs/Keeper.antt is that of the machine on packet indexes (Index.antt).
 -- Assumes nothing.
 use mathlib.Core.Path.{_≡_, refl, sym, _∙_, ap, ap₂}
-use mathlib.Core.Bool.{Bool, true}
+use mathlib.Core.Bool.{Bool, true, false}
 use mathlib.Core.List.{List, [], _∷_, _++_, map, map-map, map-append}
 use Prim.Native.Nat.{ℕ, zero, suc, _+_, _-_, _%_, _≤_, _<_, max}
 use native.Mathlib.Omega.{arith}
-use borrow.Author.Tests.{leb-true, lt-ltb, le-ltb}
+use borrow.Author.Tests.{ltb-false, leb-true, lt-ltb, le-ltb}
 use lib.Dec.{ltb, leb, eqb}
 use lib.ListN.{length, getD, drop, length-map}
+use Rattle.basics.specs.Basics.{_or_}
 use Rattle.basics.proofs.Choices.{eqb-alike, choice}
 use Rattle.basics.proofs.Lists.{map-drop, getD-within}
 use Rattle.circle.specs.Circle.{forward}
 use Rattle.circle.specs.Lengths.{modulusOf, half}
 use Rattle.frame_layout.specs.Frames.{Range}
 use Rattle.bearer.specs.Bearer.{window, mostRuns}
-use Rattle.bearer.specs.Losses.{Gap, firstBehind, aheadOf, fromOn, frontOf, topOf, offsets, fromBase, gaps, lowest, runOf, joined, withRuns}
+use Rattle.bearer.specs.Losses.{Gap, firstBehind, aheadOf, fromOn, frontOf, isBeyond, offsets, fromBase, gaps, lowest, raisedBase, runOf, joined, withRuns}
 use Rattle.bearer.specs.Keeper as K
 use Rattle.bearer.specs.Keeper.{limitOf}
 use Rattle.bearer.specs.Packets.{numberOf, Rising, Each}
@@ -23,8 +24,8 @@ use Rattle.bearer.specs.Account.{Held, runAt, indexes}
 use Rattle.bearer.specs.KeeperMeaning.{recordAt}
 use Rattle.bearer.proofs.Lists.Mapped.{each-so, each-both, each-drop, each-at, each-map, each-behind, front-within, map-alike, front-alike, Below, gaps-below}
 use Rattle.bearer.proofs.Lists.Elements.{each-there, there-each, rising-head, endsIn, ends-in, ends-past}
-use Rattle.bearer.proofs.Lists.Numbers.{whole, positive, onward-is, to-later, same-packet, same-number, ahead-is, from-is, behind-is, beyond-is}
-use Rattle.bearer.proofs.Secondary.Index.{Indexed, image, firstBack, froms, floorI, placeI, hasI, pastBase, aboveI, givenUpI, gapAt, joinedI, withRunsI, runsAfterI, baseAfterI, arrivedBaseI, topI}
+use Rattle.bearer.proofs.Lists.Numbers.{whole, positive, onward-is, to-later, same-packet, same-number, ahead-is, before-is, from-is, behind-is}
+use Rattle.bearer.proofs.Secondary.Index.{Indexed, image, firstBack, froms, floorI, placeI, hasI, pastBase, aboveI, givenUpI, gapAt, joinedI, withRunsI, runsAfterI, baseAfterI, raisedBaseI, arrivedBaseI, beyondI}
 
 -- All packets of a state lie within half the circle of base: none further behind, no record as far ahead. Records are in sending order. Runs
 -- hold packets before base only, and only records before base are confirmed.
@@ -72,10 +73,17 @@ module _ (L first base : ℕ) where
   first-furthest [] r = tt
   first-furthest (j ∷ js) r = (omega arith, there-each (λ (i : ℕ). base ≤ i + (base - j)) js (λ i t. let l = rising-head j js r i t in omega arith))
 
-  top-of-is : (js : List ℕ) → Each (Near (half L) base) js → topOf (modulusOf L) (numberOf L first base) (map (numberOf L first) js) ≡ topI base js
-  top-of-is [] near = refl
-  top-of-is (j ∷ []) near = beyond-is (modulusOf L) first (positive L) (whole L) base j (near .0 .0) (near .0 .1)
-  top-of-is (j ∷ i ∷ is) near = top-of-is (i ∷ is) (near .1)
+  -- whether the packet d past base is beyond the last
+  beyond-last-is : (d : ℕ) → d < half L → (js : List ℕ) → Each (Near (half L) base) js
+      → isBeyond (modulusOf L) (numberOf L first base) (map (numberOf L first) js) (numberOf L first (base + d)) ≡ beyondI base js (base + d)
+  beyond-last-is d h [] near = refl
+  beyond-last-is d h (j ∷ []) near =
+      rw (before-is (modulusOf L) first (positive L) (whole L) base j (near .0 .0) (near .0 .1)) (by (ltb j base) refl)
+    where
+      by : (t : Bool) → ltb j base ≡ t → (t or aheadOf (modulusOf L) (numberOf L first j) (numberOf L first (base + d))) ≡ (t or ltb j (base + d))
+      by true e = refl
+      by false e = let from : base ≤ j = ltb-false j base e in ahead-is (modulusOf L) first (positive L) (whole L) j (base + d) (omega arith) (omega arith)
+  beyond-last-is d h (j ∷ i ∷ is) near = beyond-last-is d h (i ∷ is) (near .1)
 
   -- where the last packets begin that all lie ahead of base
   front-ahead : (js : List ℕ) → Each (Near (half L) base) js → frontOf (aheadOf (modulusOf L) (numberOf L first base)) (map (numberOf L first) js) ≡ frontOf (ltb base) js
@@ -196,8 +204,13 @@ module _ (L first : ℕ) (a : Indexed) (reach : InReach L a) where
       ap (λ (gs : List Gap). withRuns (modulusOf L) (map (runAt L first) (a .runs)) (map (runOf (modulusOf L) (numberOf L first (a .base))) gs)) (given-up-is l)
       ∙ with-runs-is L first (a .base) l h (a .runs) (givenUpI a l) listed-runs (gaps-below 0 l (aboveI a))
 
-  pub base-after-is : (l top : ℕ) → K.baseAfter (image L first a) l top ≡ numberOf L first (baseAfterI a l top)
-  base-after-is l top =
+  pub base-after-is : (l : ℕ) → K.baseAfter (image L first a) l ≡ numberOf L first (baseAfterI a l)
+  base-after-is l =
+      ap (λ (os : List ℕ). (numberOf L first (a .base) + lowest l os) % modulusOf L) above-is
+      ∙ onward-is (modulusOf L) first (positive L) (a .base) (lowest l (aboveI a))
+
+  raised-base-is : (l top : ℕ) → raisedBase (modulusOf L) (numberOf L first (a .base)) (K.above (image L first a)) l top ≡ numberOf L first (raisedBaseI a l top)
+  raised-base-is l top =
       ap (λ (os : List ℕ). (numberOf L first (a .base) + lowest l (os ++ (top ∷ []))) % modulusOf L) above-is
       ∙ onward-is (modulusOf L) first (positive L) (a .base) (lowest l (aboveI a ++ (top ∷ [])))
 
@@ -257,18 +270,11 @@ module _ (L first : ℕ) (a : Indexed) (reach : InReach L a) where
       (ap (λ (ns : List ℕ). (numberOf L first (a .base) + lowest 1 (offsets (modulusOf L) (numberOf L first (a .base)) (drop (placeI a (a .base + d)) ns))) % modulusOf L) (held-are L first (a .records))
       ∙ ap (λ (os : List ℕ). (numberOf L first (a .base) + lowest 1 os) % modulusOf L) (offsets-are L first (a .base) (suc (a .base + d)) (omega arith) (indexes (a .records)) near-records)
       ∙ onward-is (modulusOf L) first (positive L) (a .base) (lowest 1 (pastBase (a .base) (drop (placeI a (a .base + d)) (indexes (a .records))))))
-      (choice (numberOf L first) {t = ltb d window} refl refl (base-after-is (limitOf d) d))
+      (choice (numberOf L first) {t = ltb d window} refl refl (raised-base-is (limitOf d) d))
 
-  -- how far the highest accepted packet is past base
-  pub top-is : topOf (modulusOf L) (numberOf L first (a .base)) (K.held (image L first a)) ≡ topI (a .base) (indexes (a .records))
-  top-is =
-      ap (topOf (modulusOf L) (numberOf L first (a .base))) (held-are L first (a .records))
-      ∙ top-of-is L first (a .base) (indexes (a .records)) near-records
-
-  pub top-near : topI (a .base) (indexes (a .records)) ≤ half L
-  top-near = by (indexes (a .records)) near-records
-    where
-      by : (js : List ℕ) → Each (Near (half L) (a .base)) js → topI (a .base) js ≤ half L
-      by [] near = omega arith
-      by (j ∷ []) near = omega arith
-      by (j ∷ i ∷ is) near = by (i ∷ is) (near .1)
+  -- whether the packet d past base is beyond the last record
+  pub beyond-is : (d : ℕ) → d < half L
+      → isBeyond (modulusOf L) (numberOf L first (a .base)) (K.held (image L first a)) (numberOf L first (a .base + d)) ≡ beyondI (a .base) (indexes (a .records)) (a .base + d)
+  beyond-is d h =
+      ap (λ (ns : List ℕ). isBeyond (modulusOf L) (numberOf L first (a .base)) ns (numberOf L first (a .base + d))) (held-are L first (a .records))
+      ∙ beyond-last-is L first (a .base) d h (indexes (a .records)) near-records

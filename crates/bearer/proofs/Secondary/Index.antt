@@ -7,7 +7,7 @@ use mathlib.Core.List.{List, [], _∷_, _++_, map}
 use Prim.Native.Nat.{ℕ, zero, suc, _+_, _-_, max}
 use lib.Dec.{ltb, leb, eqb}
 use lib.ListN.{length, getD, drop, set}
-use Rattle.basics.specs.Basics.{if_then_else_, _and_}
+use Rattle.basics.specs.Basics.{if_then_else_, _and_, _or_}
 use Rattle.basics.proofs.Lists.{inserted}
 use Rattle.frame_layout.specs.Frames.{mostRanges}
 use Rattle.bearer.specs.Bearer.{After, refusing, answering, window, mostRuns, mostRecords}
@@ -130,8 +130,11 @@ withRunsI runs (r ∷ rs) = joinedI runs r ++ rs
 abbrev pub runsAfterI : Indexed → ℕ → List Gap
 runsAfterI a l = withRunsI (a .runs) (map (gapAt (a .base)) (givenUpI a l))
 
-abbrev pub baseAfterI : Indexed → ℕ → ℕ → ℕ
-baseAfterI a l top = a .base + lowest l (aboveI a ++ (top ∷ []))
+abbrev pub baseAfterI : Indexed → ℕ → ℕ
+baseAfterI a l = a .base + lowest l (aboveI a)
+
+abbrev pub raisedBaseI : Indexed → ℕ → ℕ → ℕ
+raisedBaseI a l top = a .base + lowest l (aboveI a ++ (top ∷ []))
 
 -- ---- arrival of packet base + d
 
@@ -139,7 +142,7 @@ abbrev pub arrivedBaseI : Indexed → ℕ → ℕ → ℕ
 arrivedBaseI a p d =
     if eqb d 0 then a .base + lowest 1 (pastBase (a .base) (drop p (indexes (a .records)))) else
     if ltb d window then a .base else
-    baseAfterI a (limitOf d) d
+    raisedBaseI a (limitOf d) d
 
 -- the record of an arrival: the handset hasn't it yet
 abbrev pub newHeld : ℕ → ℕ → Held
@@ -158,23 +161,23 @@ arriveI h a pdcp p d =
     if leb mostRecords (length (a .records)) then refusing 15 a else
     answering (sizeOf (givenUpI a (limitOf d))) (arrivedI a pdcp p d)
 
--- ---- expiry
+-- ---- expiry with the mark base + d
 
-abbrev pub topI : ℕ → List ℕ → ℕ
-topI base [] = 0
-topI base (j ∷ []) = j - base
-topI base (j ∷ i ∷ is) = topI base (i ∷ is)
+-- packet i is beyond the last of others; and so it is where that is before base, or where there is none
+abbrev pub beyondI : ℕ → List ℕ → ℕ → Bool
+beyondI base [] i = true
+beyondI base (j ∷ []) i = ltb j base or ltb j i
+beyondI base (j ∷ l ∷ ls) i = beyondI base (l ∷ ls) i
 
--- the state when all below the distance top is given up
+-- the state when all below the distance d is given up
 abbrev pub expiredI : Indexed → ℕ → Indexed
-expiredI a top = a with-base baseAfterI a top top with-runs runsAfterI a top
+expiredI a d = a with-base baseAfterI a d with-runs runsAfterI a d
 
--- by how far the highest accepted is past base: 17, 14, or how many became lost
+-- by how far the mark is past base, a packet before which something is open: 14, or how many became lost
 abbrev pub expireI : Indexed → ℕ → After Indexed ℕ
-expireI a top =
-    if eqb top 0 then refusing 17 a else
-    if ltb mostRuns (length (runsAfterI a top)) then refusing 14 a else
-    answering (sizeOf (givenUpI a top)) (expiredI a top)
+expireI a d =
+    if ltb mostRuns (length (runsAfterI a d)) then refusing 14 a else
+    answering (sizeOf (givenUpI a d)) (expiredI a d)
 
 -- ---- confirm of packet i
 

@@ -4,21 +4,21 @@
 use mathlib.Core.Path.{_≡_, refl, sym, _∙_, ap, subst}
 use mathlib.Core.Bool.{Bool, false, not}
 use mathlib.Core.List.{List, _++_}
-use Prim.Native.Nat.{ℕ, _+_, _<_}
+use Prim.Native.Nat.{ℕ, _+_, _≤_, _<_}
 use borrow.Author.Tests.{ltb-true, not-false}
 use lib.Dec.{ltb}
 use lib.ListN.{length, getD, drop}
 use Rattle.basics.specs.Basics.{_and_, done}
-use Rattle.basics.proofs.Choices.{and-true}
+use Rattle.basics.proofs.Choices.{and-true, never-done}
 use Rattle.circle.specs.Circle.{forward}
 use Rattle.circle.specs.Sides.{lies}
 use Rattle.circle.specs.Lengths.{isLong, modulusOf, half, pdcps, pdcpBefore}
 use Rattle.frame_layout.specs.Frames.{Status, statusOctets}
 use Rattle.bearer.specs.Keeper as K
-use Rattle.bearer.specs.Rule.{arrival, expiry, Lowest}
-use Rattle.bearer.specs.Packets.{numberOf, In}
+use Rattle.bearer.specs.Rule.{arrival, expiry, highest, Lowest}
+use Rattle.bearer.specs.Packets.{numberOf, forwardFrom, markOf, In}
 use Rattle.bearer.specs.Account.{Held, Account, begun, indexes, arriving, expiring, confirming, reporting, leftOut, statusOf}
-use Rattle.bearer.specs.KeeperMeaning.{packetAt, Reached, opened as opens, arrived, expired, confirmed, reported, Means, KeeperMeans, ArrivalsCount, ExpiriesCount, StatusesSay}
+use Rattle.bearer.specs.KeeperMeaning.{packetAt, Reached, opened as opens, arrived, expired, confirmed, reported, Means, KeeperMeans, ArrivalsCount, ExpiriesCount, MarksLie, StatusesSay}
 use Rattle.bearer.proofs.Lists.Mapped.{each-at}
 use Rattle.bearer.proofs.Lists.Elements.{each-in}
 use Rattle.bearer.proofs.Lists.Numbers.{positive, not-before, lands}
@@ -27,14 +27,15 @@ use Rattle.bearer.proofs.Answers.Reported.{reports, reported-state, rep
 use Rattle.bearer.proofs.Secondary.Open.{one-lowest}
 use Rattle.bearer.proofs.Secondary.Index.{Indexed, image, placeI, newHeld, arrivedI, expiredI, noHeld, confirmedI, reportedI}
 use Rattle.bearer.proofs.Secondary.ImageState.{Near, one-packet, near-held}
-use Rattle.bearer.proofs.Secondary.Image.{image-fresh, went-on, image-arrive, image-expire}
+use Rattle.bearer.proofs.Secondary.Image.{image-fresh, went-on, image-arrive}
 use Rattle.bearer.proofs.Secondary.ImageStatus.{image-confirm, image-status}
 use Rattle.bearer.proofs.Secondary.Follows.{Follows, follows-start}
 use Rattle.bearer.proofs.Secondary.FollowsArrival.{follows-arrived}
-use Rattle.bearer.proofs.Secondary.FollowsExpiry.{top, follows-expired}
+use Rattle.bearer.proofs.Secondary.FollowsExpiry.{follows-expired}
 use Rattle.bearer.proofs.Secondary.FollowsStatus.{follows-confirm, follows-status}
 use Rattle.bearer.proofs.Secondary.Accounts.{indexedOf, indexed-is, recorded-is, delivered-is, going-is, highest-is}
 use Rattle.bearer.proofs.Secondary.FollowsMeans.{follows-means, follows-reach}
+use Rattle.bearer.proofs.Secondary.MarkOf.{mark-at, mark-before, Expires, refuses, goes, expire-cases}
 
 -- a state as the index machine has it: that of an account whose lowest open packet is base, and which the index machine's follows
 pub record Indexes (L first : ℕ) (k : K.Keeper) (a : Account) : Type 0 where
@@ -96,16 +97,30 @@ module _ (L first : ℕ) where
       let records = recorded-is (newHeld (x .base + d) p) (a .records) (x .follows .records .rising) in
       (indexes-by (arrivedI s p (placeI s (x .base + d)) d) state (goes .1) records refl refl, goes .2)
 
-  expiry-step : {k : K.Keeper} {a : Account} (c : ℕ) → Indexes L first k a → K.expire k .answer ≡ done c
-      → Indexes L first (K.expire k .state) (expiring a) × (length (expiry (a .fates) .lost) ≡ length (a .fates .lost) + c)
-  expiry-step {a = a} c x e =
-      let s : Indexed = indexedOf (x .base) a in
-      let said : K.expire (image L first s) .answer ≡ done c = ap (λ (y : K.Keeper). K.expire y .answer) (sym (x .state-is)) ∙ e in
-      let shut = not-refused (a .final) 9 (image L first s) _ c said in
-      let does = image-expire L first s (follows-reach (x .follows)) (shut .0) in
-      let goes = follows-expired (x .follows) c (sym (same-answer does) ∙ said) in
-      let state = ap (λ (y : K.Keeper). K.expire y .state) (x .state-is) ∙ same-state does ∙ ap (image L first) (goes .0) in
-      (indexes-by (expiredI s (top s)) state (goes .1) refl refl refl, goes .2)
+  -- what an accepted expiry leaves, and how many it declares lost
+  abbrev Expired : K.Keeper → Account → ℕ → ℕ → Type 0
+  Expired k a n c =
+      let mark : ℕ = markOf L first n (a .fates) in
+      Indexes L first (K.expire k n .state) (expiring a mark) × (length (expiry (a .fates) mark .lost) ≡ length (a .fates .lost) + c)
+
+  expiry-step : {k : K.Keeper} {a : Account} (n c : ℕ) → Indexes L first k a → K.expire k n .answer ≡ done c → Expired k a n c
+  expiry-step {k} {a} n c x e = by (expire-cases L first (x .follows) open-end n)
+    where
+      s : Indexed
+      s = indexedOf (x .base) a
+
+      said : K.expire (image L first s) n .answer ≡ done c
+      said = ap (λ (y : K.Keeper). K.expire y n .answer) (sym (x .state-is)) ∙ e
+
+      open-end : a .final ≡ false
+      open-end = not-refused (a .final) 9 (image L first s) _ c said .0
+
+      by : Expires L first (x .follows) n → Expired k a n c
+      by (refuses m is low) = never-done m c (sym (same-answer is) ∙ said)
+      by (goes d some w named is) =
+          let went = follows-expired (x .follows) d w c (sym (same-answer is) ∙ said) in
+          let state = ap (λ (y : K.Keeper). K.expire y n .state) (x .state-is) ∙ same-state is ∙ ap (image L first) (went .0) in
+          rw named (indexes-by (expiredI s d) state (went .1) refl refl refl, went .2)
 
   -- an accepted confirm marks the one record that bears the number
   confirm-step : {k : K.Keeper} {a : Account} (n i : ℕ) → Indexes L first k a → In i (indexes (a .records)) → numberOf L first i ≡ n → K.confirm k n .answer ≡ done tt
@@ -149,7 +164,7 @@ indexed L first f (opens e) = open-step L first f e
 indexed L first f (arrived {k = k} {a = a} n p c base x low e) =
     let i = indexed L first f x in
     subst (λ (b : ℕ). Indexes L first (K.arrive k n p .state) (arriving a (packetAt L first b n) p)) (base-is i base low) (arrival-step L first n p c i e .0)
-indexed L first f (expired c x e) = expiry-step L first c (indexed L first f x) e .0
+indexed L first f (expired n c x e) = expiry-step L first n c (indexed L first f x) e .0
 indexed L first f (confirmed n i x has bears e) = confirm-step L first n i (indexed L first f x) has bears e
 indexed L first f (reported d m final buffer c x e) = status-step L first d m final buffer c (indexed L first f x) e
 
@@ -179,7 +194,17 @@ arrivals-count L first f k a x n p c base low e =
     subst (λ (b : ℕ). length (arrival (a .fates) (packetAt L first b n) .lost) ≡ length (a .fates .lost) + c) (base-is i base low) (arrival-step L first n p c i e .1)
 
 pub expiries-count : ExpiriesCount
-expiries-count L first f k a x c e = expiry-step L first c (indexed L first f x) e .1
+expiries-count L first f k a x n c e = expiry-step L first n c (indexed L first f x) e .1
+
+pub marks-lie : MarksLie
+marks-lie L first f k a x base n low small =
+    let i = indexed L first f x in
+    subst (λ (b : ℕ). (half L ≤ forwardFrom L first b n → markOf L first n (a .fates) ≤ b)
+    × (forwardFrom L first b n < half L → packetAt L first b n ≤ highest (a .fates .received) → markOf L first n (a .fates) ≡ packetAt L first b n))
+    (base-is i base low) (
+      mark-before L first (i .follows) n,
+      (λ near. mark-at L first (i .follows) n (forwardFrom L first (i .base) n) (lands (modulusOf L) first (positive L) (i .base) n small)),
+    )
 
 pub statuses-say : StatusesSay
 statuses-say L first f k a x d m final buffer c e =

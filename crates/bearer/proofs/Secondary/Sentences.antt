@@ -1,5 +1,5 @@
 -- Tests of the secondary's machine, on packet indexes where it has them (Index.antt), and the sentences of document 01's table that they say
--- (specs/Refusals.antt): 12, 13, 14, 16 and 17.
+-- (specs/Refusals.antt): 12, 13, 14, 16, 17 and 19.
 -- Assumes nothing.
 use mathlib.Core.Path.{_≡_, refl, sym, _∙_, ap, subst}
 use mathlib.Core.Bool.{Bool, true, false, not}
@@ -13,27 +13,28 @@ use lib.Dec.{ltb, leb, eqb}
 use lib.ListN.{length, getD, length-map}
 use Rattle.basics.specs.Basics.{if_then_else_, _or_}
 use Rattle.basics.specs.Refusals.{Some}
-use Rattle.basics.proofs.Choices.{tested, contrary, order, or-true, or-left, or-right}
+use Rattle.basics.proofs.Choices.{tested, refuted, contrary, order, or-true, or-left, or-right}
 use Rattle.basics.proofs.Refusals.{Says, says-as, says-below, says-at-most}
 use Rattle.circle.specs.Lengths.{modulusOf, half}
 use Rattle.bearer.specs.Bearer.{mostRuns}
 use Rattle.bearer.specs.Losses.{Gap, before}
 use Rattle.bearer.specs.Keeper as K
-use Rattle.bearer.specs.Rule.{Fates, isIn, highest}
+use Rattle.bearer.specs.Rule.{Fates, isIn}
 use Rattle.bearer.specs.Packets.{forwardFrom, numberOf, In, Rising, Each}
 use Rattle.bearer.specs.Account.{Held, Account, indexes, runsIn, untold}
-use Rattle.bearer.specs.KeeperMeaning.{recordAt}
-use Rattle.bearer.specs.Refusals.{Bears, floorOf, SpanTooLong, TooManyRuns, NotToConfirm, NoneToExpire}
+use Rattle.bearer.specs.KeeperMeaning.{recordAt, packetAt}
+use Rattle.bearer.specs.Refusals.{Bears, floorOf, SpanTooLong, TooManyRuns, NotToConfirm, MarkBeyond, NoneToExpire}
 use Rattle.bearer.proofs.Lists.Mapped.{each-at}
 use Rattle.bearer.proofs.Lists.Elements.{in-none, in-head, in-tail, in-cons, rising-tail}
 use Rattle.bearer.proofs.Lists.Some.{some-so, some-both, some-at, some-never}
 use Rattle.bearer.proofs.Lists.Numbers.{whole, positive, before-is}
-use Rattle.bearer.proofs.Secondary.Index.{image, noHeld, floorI, placeI, hasI, runsAfterI}
+use Rattle.bearer.proofs.Secondary.Index.{image, noHeld, floorI, placeI, hasI, runsAfterI, beyondI}
 use Rattle.bearer.proofs.Secondary.ImageState.{Near, one-packet, near-held}
 use Rattle.bearer.proofs.Secondary.ImageStatus.{index-of-at, record-at, held-at}
-use Rattle.bearer.proofs.Secondary.Follows.{Follows, recorded, follows-has}
-use Rattle.bearer.proofs.Secondary.FollowsExpiry.{top, highest-most, none-past, highest-is}
+use Rattle.bearer.proofs.Secondary.Follows.{Follows, record-received, recorded, follows-has}
+use Rattle.bearer.proofs.Secondary.FollowsExpiry.{not-beyond}
 use Rattle.bearer.proofs.Secondary.FollowsMeans.{follows-reach}
+use Rattle.bearer.proofs.Secondary.MarkOf.{in-highest, highest-most, highest-below}
 use Rattle.bearer.proofs.Secondary.Accounts.{indexedOf, past-first}
 use Rattle.bearer.proofs.Secondary.Floor.{floor-is}
 
@@ -107,21 +108,45 @@ module _ (L first : ℕ) {base : ℕ} {a : Account} (F : Follows (half L) (index
   says-runs r l e =
       subst (λ (gs : List Gap). Says (ltb mostRuns (length gs)) (TooManyRuns a r)) e (says-below mostRuns (length (runsIn (untold (a .told) r))))
 
-  -- 17
-  pub says-nothing : Says (eqb (top (indexedOf base a)) 0) (NoneToExpire (a .fates))
-  says-nothing = record { there = there; back = back }
+  -- 19, of a mark less than half the circle forward from base
+  pub says-beyond : (n : ℕ) → forwardFrom L first base n < half L → Says (beyondI base (indexes (a .records)) (packetAt L first base n)) (MarkBeyond L first (a .fates) base n)
+  says-beyond n near-mark = record { there = there; back = back }
     where
-      there : eqb (top (indexedOf base a)) 0 ≡ true → NoneToExpire (a .fates)
-      there e i l =
-          let z = eqb-true (top (indexedOf base a)) 0 e in
-          let most : highest (a .fates .received) ≤ base = highest-most base (a .fates .received) (λ j t. omega (arith, none-past F j t)) in
-          F .fates .lowest .none-below i (omega arith)
+      d : ℕ
+      d = forwardFrom L first base n
 
-      back : NoneToExpire (a .fates) → eqb (top (indexedOf base a)) 0 ≡ true
-      back none =
+      got : List ℕ
+      got = a .fates .received
+
+      there : beyondI base (indexes (a .records)) (base + d) ≡ true → MarkBeyond L first (a .fates) base n
+      there e =
+          let below = highest-below L first F d e in (
+            near-mark,
+            ⊎-elim
+                (λ (l : 0 < d). inl (omega (arith, highest-most (base + d - 1) got (λ j t. ⊎-elim (λ before. omega arith) (λ from. omega (arith, below j t from)) (order j base)))))
+                (λ (l : d ≤ 0). inr (λ j from. refuted (isIn j got) (λ t. omega (arith, below j t from))))
+                (order 0 d),
+          )
+
+      back : MarkBeyond L first (a .fates) base n → beyondI base (indexes (a .records)) (base + d) ≡ true
+      back m =
           ⊎-elim (λ e. e)
-          (λ e. let nz = eqb-false (top (indexedOf base a)) 0 e in absurd (contrary (F .fates .lowest .open-itself) (none base (omega (arith, highest-is F nz)))))
-          (tested (eqb (top (indexedOf base a)) 0))
+          (λ e.
+          let w = not-beyond base (indexes (a .records)) (base + d) e in
+          let received = record-received F (w .last) (w .recorded) in
+          absurd (⊎-elim (λ l. omega (arith, in-highest (w .last) got received, w .from-it)) (λ none. contrary received (none (w .last) (w .from-base))) (m .1)))
+          (tested (beyondI base (indexes (a .records)) (base + d)))
+
+  -- 17, of a mark that names the packet d past base
+  pub says-nothing : (d mark : ℕ) → mark ≡ base + d → Says (eqb d 0) (NoneToExpire (a .fates) mark)
+  says-nothing d mark named = record { there = there; back = back }
+    where
+      there : eqb d 0 ≡ true → NoneToExpire (a .fates) mark
+      there e i l = F .fates .lowest .none-below i (omega (arith, eqb-true d 0 e))
+
+      back : NoneToExpire (a .fates) mark → eqb d 0 ≡ true
+      back none =
+          ⊎-elim (λ e. e) (λ e. let some = eqb-false d 0 e in absurd (contrary (F .fates .lowest .open-itself) (none base (omega arith)))) (tested (eqb d 0))
 
   -- ---- 16
 

@@ -71,7 +71,7 @@ reached-fit L first f (arrived {a = a} n p c base x low e) =
       highest = fit .highest;
       records = recorded-fits L (newHeld (packetAt L first base n) p) (a .records) (h .fits) (fit .records);
     }
-reached-fit L first f (expired c x e) = let fit = reached-fit L first f x in record { length-ok = fit .length-ok; highest = fit .highest; records = fit .records }
+reached-fit L first f (expired n c x e) = let fit = reached-fit L first f x in record { length-ok = fit .length-ok; highest = fit .highest; records = fit .records }
 reached-fit L first f (confirmed {a = a} n i x has bears e) =
     let fit = reached-fit L first f x in
     record {

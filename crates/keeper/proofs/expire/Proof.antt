@@ -38,18 +38,18 @@ state c w = let a = c .args in stateIn w (a .numbers .now) (a .pdcps .now) (a .m
 abbrev before : tie.After-judge-expiry → Keeper
 before c = state (start (read c)) (read c .read .result)
 
-judges : (c : tie.After-judge-expiry) → JudgesExpiry (c .judge-expiry .result) (before c)
+judges : (c : tie.After-judge-expiry) → JudgesExpiry (c .judge-expiry .result) (before c) (start (read c) .args .mark)
 judges c = c .judge-expiry .ensures .0
 
-accepts : (c : tie.After-plan) → AcceptsExpiry (c .plan .given .0 .0) (before (judged c))
-accepts c = subst (λ (r : Expiry). JudgesExpiry r (before (judged c))) (c .plan .given .1) (judges (judged c))
+accepts : (c : tie.After-plan) → let j = judged c in AcceptsExpiry (c .plan .given .0 .0) (before j) (expire (before j) (start (read j) .args .mark))
+accepts c = let j = judged c in subst (λ (r : Expiry). JudgesExpiry r (before j) (start (read j) .args .mark)) (c .plan .given .1) (judges j)
 
 fronts : (c : tie.After-plan) → Fronts (read (judged c) .read .result) (start (read (judged c)) .args .numbers .now) (before (judged c))
 fronts c = judged c .judge-expiry .ensures .1
 
 -- the words that are read are those of the array
-machine : (c : tie.After-read) → expire (state (start c) (c .read .result)) ≡ expire (state (start c) (wordsIn (start c .args .words .now)))
-machine c = ap (λ (w : Words). expire (state (start c) w)) (c .read .ensures)
+machine : (c : tie.After-read) → let a = start c .args in expire (state (start c) (c .read .result)) (a .mark) ≡ expire (state (start c) (wordsIn (a .words .now))) (a .mark)
+machine c = ap (λ (w : Words). expire (state (start c) w) (start c .args .mark)) (c .read .ensures)
 
 -- ---- the needs
 
@@ -79,8 +79,9 @@ returns : tie.Need-returns
 returns c =
     let j = c .before .before .before in
     let r = read j in
-    let refused = subst (λ (r : Expiry). JudgesExpiry r (before j)) (c .before .n .given .1) (judges j) in
-    (sym (subst (λ (w : Words). expire (state (start r) w) ≡ refusing (c .before .n .given .0 .0) (state (start r) w)) (r .read .ensures) refused), (λ n e. refl, λ plain. plain))
+    let mark = start r .args .mark in
+    let refused = subst (λ (r : Expiry). JudgesExpiry r (before j) mark) (c .before .n .given .1) (judges j) in
+    (sym (subst (λ (w : Words). expire (state (start r) w) mark ≡ refusing (c .before .n .given .0 .0) (state (start r) w)) (r .read .ensures) refused), (λ n e. refl, λ plain. plain))
 
 returns-2 : tie.Need-returns-2
 returns-2 c =
@@ -90,7 +91,7 @@ returns-2 c =
     let a = start r .args in
     let plan = p .plan .given .0 .0 in
     let next = ap (λ (w : Words). w saying-base plan .base saying-runs plan .lost .runs saying-records r .read .result .records) (sym (r .read .ensures)) in (
-      expired (r .read .result) (a .numbers .now) (a .pdcps .now) (a .marks .now) (a .starts .now) (a .ends .now) (accepts p) (fronts p) (c .store-moved .ensures) next (l .list-lost .last .1 .0) (l .list-lost .last .1 .1 .0) (l .list-lost .ensures) ∙ machine r,
+      expired (r .read .result) (a .numbers .now) (a .pdcps .now) (a .marks .now) (a .starts .now) (a .ends .now) (a .mark) (accepts p) (fronts p) (c .store-moved .ensures) next (l .list-lost .last .1 .0) (l .list-lost .last .1 .1 .0) (l .list-lost .ensures) ∙ machine r,
       (λ n e. absurd (lost-not _ n e), λ plain. plain-moved (r .read .result) (λ marked. marked) (plan .base) (plan .lost .runs) (accepts p .loses .few) (c .store-moved .ensures) next (rw (r .read .ensures) plain)),
     )
 

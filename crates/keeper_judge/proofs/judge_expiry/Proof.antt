@@ -25,8 +25,8 @@ front-words-requires c κs = search needs
 front-words-requires-2 : tie.Need-front-words-requires-2
 front-words-requires-2 c κs = search needs
 
-judge-below-requires : tie.Need-judge-below-requires
-judge-below-requires c κs = search needs
+judge-mark-requires : tie.Need-judge-mark-requires
+judge-mark-requires c κs = search needs
 
 returns : tie.Need-returns
 returns c =
@@ -37,7 +37,7 @@ returns c =
     let k = stateIn (a .w) (a .numbers .now) (a .pdcps .now) (a .marks .now) (a .starts .now) (a .ends .now) in
     let listed = l .listed-in .ensures in
     let held = h .held-in .ensures in (
-      c .judge-below .ensures (k .runs) (k .records) (numbers-are (a .w) (held .1) (h .held-in .result) (held .0) ∙ sym (f .before .before .front-words .ensures))
+      c .judge-mark .ensures (k .runs) (k .records) (numbers-are (a .w) (held .1) (h .held-in .result) (held .0) ∙ sym (f .before .before .front-words .ensures))
           (ends-are (a .w) (listed .1) (l .listed-in .result) (listed .0) ∙ sym (f .front-words2 .ensures)),
       fronts (a .w) (held .1) (a .starts .now) (a .ends .now),
     )
@@ -45,4 +45,4 @@ returns c =
 pub judge-expiry-spec : {M : Type 1} → statement M
 judge-expiry-spec =
     tie.close
-    (tie.spec held-in-requires listed-in-requires front-words-requires front-words-requires-2 judge-below-requires returns)
+    (tie.spec held-in-requires listed-in-requires front-words-requires front-words-requires-2 judge-mark-requires returns)

@@ -1,4 +1,4 @@
--- `call_of_one`: by its one word. Assumes nothing.
+-- `call_of_one`: by the words, one after another. Assumes nothing.
 use borrow.Author.Needs.{needs}
 use Rattle.replay_calls.proofs.call_of_one.Statement.{statement}
 use Rattle.replay_calls.proofs.call_of_one.Tie as tie
@@ -12,8 +12,26 @@ same-requires c κs = search needs
 returns : tie.Need-returns
 returns c = rw (← c .before .same .ensures, c .if1 .taken)
 
+slice-aggregate-same-2 : tie.Need-slice-aggregate-same-2
+slice-aggregate-same-2 c = search needs
+
+same-requires-2 : tie.Need-same-requires-2
+same-requires-2 c κs = search needs
+
 returns-2 : tie.Need-returns-2
-returns-2 c = rw (← c .before .same .ensures, c .if1 .left)
+returns-2 c = rw (← c .before .before .before .before .same .ensures, c .before .before .before .if1 .left, ← c .before .same2 .ensures, c .if2 .taken)
+
+returns-3 : tie.Need-returns-3
+returns-3 c = rw (← c .before .before .before .before .same .ensures, c .before .before .before .if1 .left, ← c .before .same2 .ensures, c .if2 .left)
 
 pub call-of-one-spec : {M : Type 1} → statement M
-call-of-one-spec = tie.close (tie.spec slice-aggregate-same same-requires returns returns-2)
+call-of-one-spec =
+    tie.close
+    (tie.spec
+    slice-aggregate-same
+    same-requires
+    returns
+    slice-aggregate-same-2
+    same-requires-2
+    returns-2
+    returns-3)

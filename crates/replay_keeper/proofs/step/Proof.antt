@@ -18,13 +18,13 @@ former c = let a = c .args in keeperIn (a .numbers .now) (a .pdcps .now) (a .mar
 abbrev arrival : tie.After-arrive → tie.After-call
 arrival c = let known = c .before .before .before .before .before .before .before in known .before
 
-abbrev expiry : tie.After-expire → tie.After-enum-told
-expiry c = c .before .before .before .before .before .before .before
+abbrev expiry : tie.After-expire → tie.After-call2
+expiry c = let known = c .before .before .before .before .before .before .before in known .before
 
-abbrev confirming : tie.After-confirm → tie.After-call2
+abbrev confirming : tie.After-confirm → tie.After-call3
 confirming c = let known = c .before .before .before .before .before .before .before in known .before
 
-abbrev reported : tie.After-status → tie.After-known-told3
+abbrev reported : tie.After-status → tie.After-known-told4
 reported c = let lent = c .before .before .before .before in lent .before .before .before .before
 
 -- ---- answers
@@ -38,8 +38,8 @@ arrive-requires c κs = search needs
 counted-requires : tie.Need-counted-requires
 counted-requires c κs = search needs
 
-enum-told : tie.Need-enum-told
-enum-told c = search needs
+enum-known-call-2 : tie.Need-enum-known-call-2
+enum-known-call-2 c = search needs
 
 expire-requires : tie.Need-expire-requires
 expire-requires c κs = search needs
@@ -47,8 +47,8 @@ expire-requires c κs = search needs
 counted-requires-2 : tie.Need-counted-requires-2
 counted-requires-2 c κs = search needs
 
-enum-known-call-2 : tie.Need-enum-known-call-2
-enum-known-call-2 c = search needs
+enum-known-call-3 : tie.Need-enum-known-call-3
+enum-known-call-3 c = search needs
 
 confirm-requires : tie.Need-confirm-requires
 confirm-requires c κs = search needs
@@ -56,14 +56,14 @@ confirm-requires c κs = search needs
 confirmed-requires : tie.Need-confirmed-requires
 confirmed-requires c κs = search needs
 
-enum-known-call-3 : tie.Need-enum-known-call-3
-enum-known-call-3 c = search needs
+enum-known-call-4 : tie.Need-enum-known-call-4
+enum-known-call-4 c = search needs
 
 status-requires : tie.Need-status-requires
 status-requires c κs = search needs
 
-enum-told-2 : tie.Need-enum-told-2
-enum-told-2 c = search needs
+enum-told : tie.Need-enum-told
+enum-told c = search needs
 
 returns : tie.Need-returns
 returns c =
@@ -73,12 +73,12 @@ returns c =
 returns-2 : tie.Need-returns-2
 returns-2 c =
     let known = expiry (c .before) in
-    c .counted2 .ensures _ _ ∙ ap (following Lost) (c .before .expire .ensures .0) ∙ ap (playKeeper (former (known .before .before .before))) (sym (known .enum-told .given .1))
+    c .counted2 .ensures _ _ ∙ ap (following Lost) (c .before .expire .ensures .0) ∙ ap (playKeeper (former (known .before .before .before))) (sym (known .call2 .given .1))
 
 returns-3 : tie.Need-returns-3
 returns-3 c =
     let known = confirming (c .before) in
-    c .confirmed .ensures _ _ ∙ ap (following okAnswer) (c .before .confirm .ensures .0) ∙ ap (playKeeper (former (known .before .before .before))) (sym (known .call2 .given .1))
+    c .confirmed .ensures _ _ ∙ ap (following okAnswer) (c .before .confirm .ensures .0) ∙ ap (playKeeper (former (known .before .before .before))) (sym (known .call3 .given .1))
 
 same-length : tie.Need-same-length
 same-length c = search needs
@@ -87,10 +87,10 @@ returns-4 : tie.Need-returns-4
 returns-4 c =
     let status = c .before .before in
     let known = reported status .before in
-    status .status .ensures ∙ ap (playKeeper (former (known .before .before .before))) (sym (known .call3 .given .1))
+    status .status .ensures ∙ ap (playKeeper (former (known .before .before .before))) (sym (known .call4 .given .1))
 
 returns-5 : tie.Need-returns-5
-returns-5 c = ap (playKeeper (former (c .before .before .before))) (sym (c .enum-told2 .given .1))
+returns-5 c = ap (playKeeper (former (c .before .before .before))) (sym (c .enum-told .given .1))
 
 pub step-spec : {M : Type 1} → statement M
 step-spec =
@@ -99,15 +99,15 @@ step-spec =
     enum-known-call
     arrive-requires
     counted-requires
-    enum-told
+    enum-known-call-2
     expire-requires
     counted-requires-2
-    enum-known-call-2
+    enum-known-call-3
     confirm-requires
     confirmed-requires
-    enum-known-call-3
+    enum-known-call-4
     status-requires
-    enum-told-2
+    enum-told
     returns
     returns-2
     returns-3

@@ -14,8 +14,8 @@ pub enum Call<'a> {
     Open([u32; 3]),
     /// Secondary: number, PDCP number.
     Arrive([u32; 2]),
-    /// Secondary.
-    Expire,
+    /// Secondary: mark.
+    Expire(u32),
     /// Secondary: number.
     Confirm(u32),
     /// Secondary.
@@ -50,7 +50,7 @@ impl<'a> Call<'a> {
         let call = match fields.next()? {
             b"open" => Self::Open(numbers(&mut fields)?),
             b"arrive" => Self::Arrive(numbers(&mut fields)?),
-            b"expire" => Self::Expire,
+            b"expire" => Self::Expire(number(&mut fields)?),
             b"confirm" => Self::Confirm(number(&mut fields)?),
             b"status" => Self::status(numbers(&mut fields)?)?,
             b"send" => Self::Send(numbers(&mut fields)?),
@@ -69,7 +69,7 @@ impl<'a> Call<'a> {
         match *self {
             Self::Open(numbers) => print(out, b"open", &numbers),
             Self::Arrive(numbers) => print(out, b"arrive", &numbers),
-            Self::Expire => print(out, b"expire", &[]),
+            Self::Expire(mark) => print(out, b"expire", &[mark]),
             Self::Confirm(number) => print(out, b"confirm", &[number]),
             Self::Status {
                 desired,
@@ -137,7 +137,7 @@ mod tests {
         for call in [
             Call::Open([12, 0, 4_095]),
             Call::Arrive([65_535, 7]),
-            Call::Expire,
+            Call::Expire(u32::MAX),
             Call::Confirm(10),
             status,
             Call::Send([0, u32::MAX]),

@@ -50,7 +50,7 @@ impl Ends {
         match call {
             Call::Open(_) => Ok(()),
             Call::Arrive([number, pdcp]) => answer::lost(keeper.arrive(number, pdcp), out),
-            Call::Expire => answer::lost(keeper.expire(), out),
+            Call::Expire(mark) => answer::lost(keeper.expire(mark), out),
             Call::Confirm(number) => answer::ok(keeper.confirm(number), out),
             Call::Status {
                 desired,

@@ -10,6 +10,7 @@ use property::trace::Trace;
 use property::{codec, frames, keeper, replay, rested, scripts};
 use proptest::collection::vec;
 use proptest::prelude::*;
+use soak::marks::Marks;
 use soak::options::Options;
 use soak::order::Sends;
 use soak::sizes::Sizes;
@@ -72,6 +73,7 @@ fn run() -> Result<bool, String> {
 
     codecs(&mut suite, least_frames);
     keepers(&mut suite, least_calls);
+    keepers_on_garbage(&mut suite);
     let programs = [library.as_path(), product.as_path()];
     replays(&mut suite, "replay", programs, least_calls, true);
     demand_3(&mut suite, programs, (least_calls / 2_000) as u32 + 1);
@@ -151,13 +153,8 @@ fn small([long, place, left]: boundary::Cursor) -> boundary::Cursor {
 
 /// The keeper through the boundary.
 fn keepers(suite: &mut Suite, least: u64) {
-    let mut table = Table::default();
-    let calls = Cell::new(0);
-    let mut alike = |script: &Script| {
-        let made = keeper::alike(script, &mut table)?;
-        calls.set(calls.get() + made);
-        Ok(())
-    };
+    let mut met = keeper::Met::default();
+    let mut alike = |script: &Script| keeper::alike(script, &mut met);
     suite.property(
         "keeper: calls that aim at nothing",
         300,
@@ -173,23 +170,32 @@ fn keepers(suite: &mut Suite, least: u64) {
         &Aim::Moods(SCRIPT),
         &mut alike,
     );
-    let garbage = RefCell::new(0);
+    suite.property(
+        "keeper: marks of every kind",
+        cases.div_ceil(10),
+        &Aim::Marks,
+        &mut alike,
+    );
+    println!("keeper calls compared: {}", met.calls);
+    suite.check("keeper: enough calls", met.calls >= least);
+    println!("keeper, expiries: {}", met.marks);
+    suite.check("keeper: marks of each kind", met.marks.least() > 0);
+    suite.covers("Keeper through the boundary", &met.table, &keeper::REFUSALS);
+}
+
+/// The keeper on states that no call left behind.
+fn keepers_on_garbage(suite: &mut Suite) {
+    let mut calls = 0;
     suite.property(
         "keeper: states of garbage",
         20_000,
         &keeper::garbage(),
         |case| {
-            *garbage.borrow_mut() += keeper::survives(case)?;
+            calls += keeper::survives(case)?;
             Ok(())
         },
     );
-    println!(
-        "keeper calls compared: {}; on garbage: {}",
-        calls.get(),
-        garbage.borrow()
-    );
-    suite.check("keeper: enough calls", calls.get() >= least);
-    suite.covers("Keeper through the boundary", &table, &keeper::REFUSALS);
+    println!("keeper calls on garbage: {calls}");
 }
 
 /// Both ends through two makes of `replay`; `long` scripts too, in which the
@@ -210,6 +216,7 @@ fn replays(suite: &mut Suite, name: &str, programs: [&Path; 2], least: u64, long
     let cases = least.div_ceil(20_000) as u32;
     suite.property(&titled("rests"), cases, &Aim::Rests, &mut alike);
     suite.property(&titled("sizes and room"), cases, &Aim::Sizes, &mut alike);
+    suite.property(&titled("marks"), cases, &Aim::Marks, &mut alike);
     suite.property(
         &titled("lines that aim at nothing"),
         least.div_ceil(50_000) as u32,
@@ -260,7 +267,7 @@ fn opposite_copy(
 fn demand_3(suite: &mut Suite, programs: [&Path; 2], cases: u32) {
     let sum = RefCell::new(Tally::default());
     let calls = Cell::new(0);
-    let met = RefCell::new((Sends::default(), Sizes::default()));
+    let met = RefCell::new((Sends::default(), Sizes::default(), Marks::default()));
     let sums = RefCell::new(Sums::default());
     let told = |trace: &Trace| {
         let answers = replay::answers_alike(programs, &Script(trace.lines.clone()))?;
@@ -279,6 +286,7 @@ fn demand_3(suite: &mut Suite, programs: [&Path; 2], cases: u32) {
         }
         met.borrow_mut().0.add(bearer.sends);
         met.borrow_mut().1.add(bearer.sizes);
+        met.borrow_mut().2.add(bearer.marks);
         told(&bearer.trace).map(|_| ())
     });
     for bits in [12, 15, 18] {
@@ -297,7 +305,7 @@ fn demand_3(suite: &mut Suite, programs: [&Path; 2], cases: u32) {
 }
 
 /// What the traces have to have met.
-fn met_on_traces(suite: &mut Suite, sum: Tally, (sends, sizes): (Sends, Sizes)) {
+fn met_on_traces(suite: &mut Suite, sum: Tally, (sends, sizes, marks): (Sends, Sizes, Marks)) {
     let Tally {
         freed, reported, ..
     } = sum;
@@ -313,4 +321,6 @@ fn met_on_traces(suite: &mut Suite, sum: Tally, (sends, sizes): (Sends, Sizes)) 
     );
     println!("demand 3 on traces, sizes: {sizes}");
     suite.check("demand 3: sizes and room at limits", sizes.least() > 0);
+    println!("demand 3 on traces, expiries: {marks}");
+    suite.check("demand 3: marks of each kind", marks.least_in_bounds() > 0);
 }

@@ -202,7 +202,7 @@ pub(super) fn numbers(script: &mut Script) {
             0 => number ^ script.rng.within(0..4),
             _ => script.rng.within(0..4_096),
         };
-        match script.rng.within(0..8) {
+        match script.rng.within(0..9) {
             0 => script.bad_open(),
             1 => script.arrive(number, pdcp),
             2 => script.confirm(number),
@@ -210,6 +210,7 @@ pub(super) fn numbers(script: &mut Script) {
             4 => script.send_at_limit(pdcp),
             5 => script.send_at_edge(),
             6 => script.room(),
+            7 => script.expire(number),
             _ => script.take(),
         }
     }
@@ -255,12 +256,14 @@ pub(super) fn lines(script: &mut Script) {
 }
 
 /// Readable ones among these ask, or are refused whatever the bearer.
-const LINES: [&[u8]; 22] = [
+const LINES: [&[u8]; 24] = [
     b"",
     b"keeper",
     b"ledger",
     b"keeper\t",
-    b"expire\t0",
+    b"expire",
+    b"expire\t0\t0",
+    b"expire\t4294967295",
     b"take\ttake",
     b"OPEN\t12\t0\t0",
     b"open\t12\t0\t4294967296",
@@ -287,13 +290,15 @@ fn acts(line: &[u8]) -> bool {
         None => false,
         Some(call) => {
             use programs::replay::Call::{
-                Accept, Arrive, Confirm, Keeper, Ledger, Open, Room, Send,
+                Accept, Arrive, Confirm, Expire, Keeper, Ledger, Open, Room, Send,
             };
             let numbers = match call {
                 Keeper | Ledger | Room => return false,
                 Open([bits, ..]) => return matches!(bits, 12 | 15 | 18),
                 Accept(octets) => return octets.len() >= 14,
-                Arrive([number, _]) | Confirm(number) | Send([number, _]) => number,
+                Arrive([number, _]) | Expire(number) | Confirm(number) | Send([number, _]) => {
+                    number
+                }
                 _ => return true,
             };
             numbers < 1 << 24
@@ -336,19 +341,20 @@ fn watched_take(script: &mut Script) {
 
 /// Calls that a closed end refuses.
 fn closed(script: &mut Script) {
-    for _ in 0..script.rng.within(3..12) {
+    for _ in 0..script.rng.within(5..15) {
         let number = number(script);
-        match script.rng.within(0..8) {
+        match script.rng.within(0..9) {
             0 => script.arrive_ahead(0),
-            1 => script.expire(),
-            2 => script.confirm(number),
-            3 => {
+            1 => script.expire_somewhere(),
+            2 => script.expire(number),
+            3 => script.confirm(number),
+            4 => {
                 let is_final = script.rng.chance(50);
                 script.status(is_final, 1_018);
             }
-            4 => script.send_next(0),
-            5 => script.send_next_at_limit(),
-            6 => {
+            5 => script.send_next(0),
+            6 => script.send_next_at_limit(),
+            7 => {
                 let octets = frames::any(&mut script.rng);
                 script.accept(&octets);
             }

@@ -18,7 +18,7 @@ pub fn script(rng: Rng) -> Script {
 #[must_use]
 pub fn in_moods(mut script: Script) -> Script {
     for round in 0..script.rng.within(2..7) {
-        match script.rng.within(0..28) {
+        match script.rng.within(0..31) {
             0..3 => stress::runs(&mut script),
             3 => stress::records(&mut script),
             4..6 => stress::jumps(&mut script),
@@ -30,6 +30,7 @@ pub fn in_moods(mut script: Script) -> Script {
             16 if round > 1 => hostile::closing(&mut script),
             17..20 => stress::rests(&mut script),
             20..23 => stress::sizes(&mut script),
+            23..26 => stress::marks(&mut script),
             _ => traffic::traffic(&mut script),
         }
         if script.rng.chance(30) {
@@ -89,12 +90,26 @@ pub fn sized(rng: Rng) -> Script {
     script
 }
 
+/// A script of expiries with marks of every kind, on one bearer to its end.
+#[must_use]
+pub fn marked(rng: Rng) -> Script {
+    let mut script = Script::new(rng);
+    for _ in 0..5 {
+        stress::marks(&mut script);
+        script.show();
+    }
+    stress::runs(&mut script);
+    stress::marks(&mut script);
+    hostile::closing(&mut script);
+    script
+}
+
 /// Calls before anything is open, for the head of a program's input.
 #[must_use]
 pub fn unopened(rng: Rng) -> Vec<u8> {
     let mut script = Script::new(rng);
     let opened = script.text.len();
-    script.expire();
+    script.expire_somewhere();
     script.arrive_ahead(0);
     script.confirm(0);
     script.status(false, 0);

@@ -1,5 +1,5 @@
 //! Stores filled to their limits and beyond, the far side of the circle, both
-//! sides of the limits of send, and of the room.
+//! sides of the limits of send, of the room and of marks.
 
 use super::hostile;
 use crate::script::Script;
@@ -18,7 +18,7 @@ pub(super) fn runs(script: &mut Script) {
             let ahead = script.rng.pick(&[1, 1, 1, 1, 2, 3, 256, 258]);
             script.arrive_ahead(ahead);
             if script.rng.chance(60) {
-                script.expire();
+                script.expire_all();
             }
         }
     }
@@ -28,7 +28,7 @@ pub(super) fn runs(script: &mut Script) {
     for _ in 0..script.rng.within(1..6) {
         short_rooms(script);
         script.status(false, 1_018);
-        script.expire();
+        script.expire_somewhere();
     }
 }
 
@@ -39,7 +39,7 @@ fn around_a_frame(script: &mut Script) {
     for _ in 0..wanted {
         if script.ends.keeper.listed_runs().len() < wanted {
             script.arrive_ahead(1);
-            script.expire();
+            script.expire_all();
         }
     }
 }
@@ -108,11 +108,36 @@ pub(super) fn jumps(script: &mut Script) {
             _ => script.rng.within(0..2 * half),
         };
         script.arrive_ahead(ahead);
-        match script.rng.within(0..8) {
-            0 => script.expire(),
-            1 => script.status(false, 1_018),
-            2 => confirm_some(script, 100),
+        match script.rng.within(0..9) {
+            0 => script.expire_all(),
+            1 => script.expire_somewhere(),
+            2 => script.status(false, 1_018),
+            3 => confirm_some(script, 100),
             _ => {}
+        }
+    }
+}
+
+/// Gaps, and expiries with marks of every kind: those of a host's timer, which
+/// more gaps may follow while it runs, and any others.
+pub(super) fn marks(script: &mut Script) {
+    for _ in 0..script.rng.within(10..60) {
+        for _ in 0..script.rng.pick(&[0, 1, 3, 10]) {
+            let ahead = script.rng.pick(&[0, 0, 1, 1, 2, 3, 5, 9, 30, 200]);
+            script.arrive_ahead(ahead);
+        }
+        match script.rng.within(0..8) {
+            0 => script.start_timer(),
+            1 => {
+                script.end_timer();
+                script.start_timer();
+            }
+            2 => script.expire_all(),
+            _ => script.expire_somewhere(),
+        }
+        if script.rng.once_in(10) {
+            confirm_some(script, 100);
+            script.status(false, 1_018);
         }
     }
 }

@@ -72,8 +72,12 @@ fn round(script: &mut Script, road: &Road) {
     if script.rng.once_in(20) {
         script.arrive_opposite();
     }
+    script.start_timer();
     if script.rng.chance(road.expired) {
-        script.expire();
+        script.end_timer();
+    }
+    if script.rng.once_in(30) {
+        script.expire_somewhere();
     }
     confirms(script, road);
     if script.rng.chance(road.reported) {

@@ -90,10 +90,10 @@ impl Bench {
         Ok(answered)
     }
 
-    /// The secondary gives up its gaps.
-    pub fn expire(&mut self) -> Seen<u32> {
-        let answered = self.pair.expire().map_err(Trouble::Demand)?;
-        self.tell(Call::Expire, answered, answer::lost)?;
+    /// The secondary gives up its gaps before a mark.
+    pub fn expire(&mut self, mark: u32) -> Seen<u32> {
+        let answered = self.pair.expire(mark).map_err(Trouble::Demand)?;
+        self.tell(Call::Expire(mark), answered, answer::lost)?;
         Ok(answered)
     }
 
@@ -183,7 +183,7 @@ fn word_of(call: &Call<'_>) -> &'static str {
     match call {
         Call::Open(_) => "open",
         Call::Arrive(_) => "arrive",
-        Call::Expire => "expire",
+        Call::Expire(_) => "expire",
         Call::Confirm(_) => "confirm",
         Call::Status { .. } => "status",
         Call::Send(_) => "send",

@@ -78,8 +78,13 @@ pub const HASTY: u32 = 100;
 /// From secondary back to master.
 pub const ROAD_BACK: Range<u32> = 6..12;
 
-/// A gap this old is given up.
+/// The gap timer: a gap this old is given up.
 pub const GAP: u64 = 30;
+/// In one millisecond of so many the host hands over a mark that no timer had,
+pub const WRONG_MARK: u32 = 1_000;
+/// past all that was accepted by fewer than so many, or up to half the circle
+/// old, or past the circle.
+pub const WRONG_MARK_PAST: usize = 300;
 /// A status is built at least this often.
 pub const STATUS: u64 = 40;
 /// And after as many arrivals.
@@ -226,11 +231,8 @@ pub fn secondary(settings: &Settings) -> Vec<Row> {
     let short = format!("1 in {SHORT_BUFFER} first asked for");
     let desired = grouped(desired_below(settings.rate).into());
     let again = format!("tried every {HANDSET_AGAIN} ms, 1 in {HASTY} made too early");
-    vec![
-        (
-            "gap timer (expiry)",
-            format!("{GAP} ms after the gap at base is seen"),
-        ),
+    let mut rows = gap_timer().to_vec();
+    rows.extend([
         (
             "status",
             format!("{often}; again at once while runs are listed"),
@@ -248,6 +250,29 @@ pub fn secondary(settings: &Settings) -> Vec<Row> {
             format!("{} after the arrival", milliseconds(&HANDSET)),
         ),
         ("confirm of a packet above a gap", again),
+    ]);
+    rows
+}
+
+/// The rows of its gap timer.
+fn gap_timer() -> [Row; 3] {
+    [
+        (
+            "gap timer (expiry)",
+            format!("{GAP} ms after a gap is seen; again while one is left"),
+        ),
+        (
+            "  its mark",
+            "the highest accepted when it starts; it stops when none before that is open"
+                .to_owned(),
+        ),
+        (
+            "  marks that no timer had",
+            format!(
+                "in 1 ms of {}: past all that was accepted, up to half a circle old, or M and more",
+                grouped(WRONG_MARK.into())
+            ),
+        ),
     ]
 }
 

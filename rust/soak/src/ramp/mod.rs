@@ -16,6 +16,7 @@ pub mod rests;
 pub mod rooms;
 pub mod run;
 pub mod source;
+pub mod spared;
 pub mod table;
 pub mod untested;
 pub mod verdict;

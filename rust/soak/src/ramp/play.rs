@@ -5,7 +5,8 @@ use super::bench::{Bench, Trouble, held_by};
 use super::conditions::{
     GAP, HANDSET_AGAIN, HASTY, OLD_COPY, OLD_COPY_QUIET, OLDEST_COPY, OWN_RADIO, OWN_RADIO_PACKETS,
     ROLLOVER_DROPS, ROOM, SHORT_BUFFER, SHORT_BUFFER_BELOW, SHOW, STATUS, STATUS_ARRIVALS, TAKE,
-    TAKE_MOST, TWIN_LATER, WIND_UP, WRONG_SIZE, WRONG_SIZES, desired_below,
+    TAKE_MOST, TWIN_LATER, WIND_UP, WRONG_MARK, WRONG_MARK_PAST, WRONG_SIZE, WRONG_SIZES,
+    desired_below,
 };
 use super::figures::Figures;
 use super::link::Mismatch;
@@ -43,6 +44,14 @@ pub struct Ending {
 /// Packets with the times they are due at.
 type Queue = BinaryHeap<Reverse<(u64, usize)>>;
 
+/// The host's gap timer, while it runs.
+#[derive(Clone, Copy)]
+struct Timer {
+    /// The highest packet accepted at its start.
+    mark: usize,
+    since: u64,
+}
+
 struct Play {
     bench: Bench,
     opening: Opening,
@@ -57,7 +66,7 @@ struct Play {
     road: Queue,
     handset: Queue,
     frames: VecDeque<u64>,
-    gap_since: Option<(usize, u64)>,
+    timer: Option<Timer>,
     last_status: u64,
     arrivals: u32,
     newest_arrived: usize,
@@ -93,7 +102,7 @@ impl Play {
             road: Queue::new(),
             handset: Queue::new(),
             frames: VecDeque::new(),
-            gap_since: None,
+            timer: None,
             last_status: 0,
             arrivals: 0,
             newest_arrived: 0,
@@ -147,7 +156,8 @@ impl Play {
         self.weather.advance(self.now, fill);
         self.sends()?;
         self.arrive_due()?;
-        self.expire_old_gap()?;
+        self.gap_timer()?;
+        self.wrong_mark()?;
         self.figures.look(&self.bench.pair, self.weather.troubles());
         self.confirm_due()?;
         self.build_status()?;
@@ -290,8 +300,11 @@ impl Play {
         if !self.bench.pair.watch.may_arrive(packet) {
             return Ok(());
         }
+        let highest = self.bench.pair.watch.highest_accepted();
         match self.bench.arrive(packet)? {
             Ok(lost) => {
+                let next = highest.map_or(0, |highest| highest + 1);
+                self.figures.losses.passed(next..packet, self.now);
                 self.figures.losses.arrived(packet);
                 self.gave_up(lost, By::Window);
                 let due = self.now + self.weather.handset();
@@ -321,25 +334,56 @@ impl Play {
         self.arrive(oldest + newer)
     }
 
-    fn expire_old_gap(&mut self) -> Result<(), Trouble> {
-        let watch = &self.bench.pair.watch;
-        self.gap_since = match self.gap_since {
-            _ if !watch.has_gap() => None,
-            Some((base, since)) if base == watch.base() => Some((base, since)),
-            _ => Some((watch.base(), self.now)),
-        };
-        if self
-            .gap_since
-            .is_some_and(|(_, since)| self.now - since >= GAP)
-        {
-            self.expire()?;
+    /// The gap timer stops when no packet before its mark is open any more, and
+    /// hands its mark over when it ends. If a gap is left, it starts anew.
+    fn gap_timer(&mut self) -> Result<(), Trouble> {
+        let base = self.bench.pair.watch.base();
+        self.timer = self.timer.filter(|timer| base < timer.mark);
+        if let Some(ended) = self.timer.take_if(|timer| self.now - timer.since >= GAP) {
+            self.expire(self.opening.number(ended.mark))?;
+        }
+        if self.timer.is_none() {
+            self.timer = self.started_timer();
         }
         Ok(())
     }
 
-    fn expire(&mut self) -> Result<(), Trouble> {
-        if let Ok(lost) = self.bench.expire()? {
+    /// A timer that starts now, if there is a gap.
+    fn started_timer(&self) -> Option<Timer> {
+        let watch = &self.bench.pair.watch;
+        let mark = watch.highest_accepted().filter(|_| watch.has_gap())?;
+        let since = self.now;
+        Some(Timer { mark, since })
+    }
+
+    /// Now and then the host hands over a mark that no timer had.
+    fn wrong_mark(&mut self) -> Result<(), Trouble> {
+        if !self.rng.once_in(WRONG_MARK) {
+            return Ok(());
+        }
+        let watch = &self.bench.pair.watch;
+        let (base, numbers) = (watch.base(), self.opening.numbers());
+        let next = watch.highest_accepted().map_or(0, |highest| highest + 1);
+        let mark = match self.rng.within(0..3) {
+            0 => {
+                let past = self.rng.place(WRONG_MARK_PAST);
+                self.opening.number(next.max(base) + past)
+            }
+            1 if base > 0 => {
+                let oldest = base.saturating_sub(numbers as usize / 2);
+                let old = oldest + self.rng.place(base - oldest);
+                self.opening.number(old)
+            }
+            _ => numbers as u32 + self.opening.number(next),
+        };
+        self.expire(mark)
+    }
+
+    fn expire(&mut self, mark: u32) -> Result<(), Trouble> {
+        if let Ok(lost) = self.bench.expire(mark)? {
             self.gave_up(lost, By::Expiry);
+            let missing = self.bench.pair.watch.missing();
+            self.figures.losses.spared.expired(missing);
         }
         Ok(())
     }
@@ -347,7 +391,7 @@ impl Play {
     /// So many packets were declared lost just now.
     fn gave_up(&mut self, lost: u32, by: By) {
         for packet in self.bench.pair.watch.last_lost(lost) {
-            self.figures.losses.lost(packet, by);
+            self.figures.losses.lost(packet, by, self.now);
         }
     }
 
@@ -426,7 +470,10 @@ impl Play {
     fn wind_up(&mut self) -> Result<(), Trouble> {
         self.now += WIND_UP;
         self.arrive_due()?;
-        self.expire()?;
+        while self.bench.pair.watch.has_gap() {
+            self.now += GAP;
+            self.gap_timer()?;
+        }
         // With nothing open any more, as in every pause.
         if let Some(oldest) = self.bench.pair.watch.oldest_copy() {
             self.figures.copies += 1;

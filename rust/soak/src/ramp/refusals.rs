@@ -5,9 +5,9 @@ use crate::table::Table;
 use std::fmt::{self, Formatter};
 use x2u::Refusal::{
     self, BufferShort, Closed, FieldsCut, FinalTooEarly, FrameLength, HighestNotWaiting,
-    HighestOutside, HighestTooLarge, Late, LedgerFull, ListCut, NotConfirmable, NotOurStatus,
-    NothingOpen, NothingToTake, NumberTooLarge, Opposite, PdcpLength, PdcpOrder, RangeCount,
-    RangesNotWaiting, RecordsFull, Repeated, ReservedType, RunsFull, SizeOutside, Span,
+    HighestOutside, HighestTooLarge, Late, LedgerFull, ListCut, MarkBeyond, NotConfirmable,
+    NotOurStatus, NothingOpen, NothingToTake, NumberTooLarge, Opposite, PdcpLength, PdcpOrder,
+    RangeCount, RangesNotWaiting, RecordsFull, Repeated, ReservedType, RunsFull, SizeOutside, Span,
 };
 
 /// The end, the call's word, and its refusals in their order.
@@ -29,7 +29,11 @@ const CALLS: [Call; 8] = [
             RecordsFull,
         ],
     ),
-    ("secondary", "expire", &[Closed, NothingOpen, RunsFull]),
+    (
+        "secondary",
+        "expire",
+        &[Closed, NumberTooLarge, MarkBeyond, NothingOpen, RunsFull],
+    ),
     (
         "secondary",
         "confirm",
@@ -79,8 +83,9 @@ fn words(refusal: Refusal) -> &'static str {
         RunsFull => "more than 256 runs",
         RecordsFull => "512 records held",
         NotConfirmable => "nothing to confirm by that number",
-        NothingOpen => "no gap to give up",
+        NothingOpen => "no open number before the mark",
         Opposite => "opposite: half the circle from base",
+        MarkBeyond => "mark past all that was accepted",
         BufferShort => "buffer too short",
         FinalTooEarly => "Final with more than 162 runs",
         NotOurStatus => "not this bearer's status",

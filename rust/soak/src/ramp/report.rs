@@ -15,8 +15,13 @@ use std::time::Duration;
 use x2u::frame::MOST_RANGES;
 
 /// Why more packets are declared lost than are dropped.
-const WHY_LATE: &str = "An expiry gives up every open number below the highest accepted, and an arrival those far below it:
-  also packets that are merely late, still on the road.";
+const WHY_LATE: &str = "An expiry gives up every open number before its mark, and an arrival those far below it: also packets
+  that are merely late, still on the road.";
+
+/// What the mark of an expiry spares.
+const WHY_SPARED: &str = "Document 01's expiry gave up every open number below the highest accepted, however young. Its mark spares
+  those at or past the highest accepted when the timer started. Each packet that an expiry spared so is counted once:
+  it arrived between the next timer's start and its end, though the old rule would have declared it lost, or it didn't.";
 
 /// What the figures of a run are that the program failed.
 const RUNS_AHEAD: &str = "\
@@ -229,6 +234,28 @@ impl Report<'_> {
         sum(out, "declared lost", &parts, self.ending.tally.lost)
     }
 
+    fn spared(&self, out: &mut Formatter<'_>) -> fmt::Result {
+        let spared = &self.ending.figures.losses.spared;
+        section(out, "What the marks of expiries saved")?;
+        writeln!(out, "  {WHY_SPARED}")?;
+        line(out, "expiries accepted", spared.expiries)?;
+        line(
+            out,
+            "  of them, spared a packet by their mark",
+            spared.sparing,
+        )?;
+        if let Some(youngest) = self.ending.figures.losses.youngest {
+            line(out, "youngest gap that an expiry gave up, ms", youngest)?;
+        }
+        let parts = [
+            ("arrived after all: good packets saved", spared.arrived),
+            ("given up later, dropped on the road", spared.dropped_lost),
+            ("given up later, merely late", spared.late_lost),
+            ("still open at the end", spared.open),
+        ];
+        sum(out, "spared by a mark", &parts, spared.packets)
+    }
+
     fn dropped(&self, out: &mut Formatter<'_>) -> fmt::Result {
         let losses = &self.ending.figures.losses;
         section(out, "What became of the packets dropped")?;
@@ -425,6 +452,7 @@ impl Display for Report<'_> {
         self.octets(out)?;
         self.rests(out)?;
         self.losses(out)?;
+        self.spared(out)?;
         self.dropped(out)?;
         self.statuses(out)?;
         self.stores(out)?;

@@ -48,6 +48,8 @@ pub struct Played {
     pub sent: [u64; 2],
     /// The watch's figures.
     pub tally: Tally,
+    /// Good packets saved by the marks of expiries.
+    pub saved: u64,
     /// Rollovers of the X2-U and of the PDCP numbers.
     pub rollovers: [usize; 2],
     /// Answers that differed or were missing.
@@ -137,6 +139,7 @@ impl Run {
             result: result(&self.settings, &ending),
             sent: [ending.sent, rate_sent(&ending)],
             tally: ending.tally,
+            saved: ending.figures.losses.spared.arrived,
             rollovers: [&ending.figures.numbers, &ending.figures.pdcp].map(|met| met.times.len()),
             mismatches: u64::from(ending.mismatch.is_some()),
             report,
@@ -178,13 +181,14 @@ fn progress(settings: &Settings, second: u64, figures: &Figures, tally: Tally) -
         .map_or(Stores::default(), |s| s.fullest);
     let limits = Stores::LIMITS;
     format!(
-        "{:>2}:{:02} of {}:{:02}  freed {:>9}  lost {:>7}  ledger {:>3}/{}  runs {:>3}/{}",
+        "{:>2}:{:02} of {}:{:02}  freed {:>9}  lost {:>7}  saved {:>5}  ledger {:>3}/{}  runs {:>3}/{}",
         second / 60,
         second % 60,
         whole / 60,
         whole % 60,
         tally.freed,
         tally.lost,
+        figures.losses.spared.arrived,
         last.entries,
         limits.entries,
         last.runs,

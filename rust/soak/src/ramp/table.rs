@@ -68,13 +68,14 @@ impl Table {
 }
 
 /// What the columns are called, and how wide they are.
-const COLUMNS: [(&str, usize); 11] = [
+const COLUMNS: [(&str, usize); 12] = [
     ("L", 2),
     ("seed", 6),
     ("result", 24),
     ("sent", 11),
     ("rate", 7),
     ("lost", 9),
+    ("saved", 7),
     ("freed", 11),
     ("taken", 9),
     ("X2-U", 5),
@@ -91,6 +92,7 @@ fn cells(row: &Played) -> [String; COLUMNS.len()] {
         grouped(row.sent[0]),
         grouped(row.sent[1]),
         grouped(row.tally.lost),
+        grouped(row.saved),
         grouped(row.tally.freed),
         grouped(row.tally.taken),
         row.rollovers[0].to_string(),
@@ -133,7 +135,7 @@ impl Display for Table {
         let file = self.file.path.display();
         writeln!(
             out,
-            "\nrate: packets sent a second. X2-U, PDCP: rollovers met."
+            "\nrate: packets sent a second. saved: packets that arrived, and that document 01's expiry would have declared lost.\nX2-U, PDCP: rollovers met."
         )?;
         writeln!(out, "This table is saved to {file}")?;
         writeln!(out, "Result: {}", self.last_line())

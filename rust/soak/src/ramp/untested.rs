@@ -76,6 +76,9 @@ fn coverage(report: &Report<'_>) -> Vec<String> {
     if ending.figures.rests.turns == 0 {
         list.push("A rest of more than a whole turn of the PDCP circle.".to_owned());
     }
+    if ending.figures.losses.spared.arrived == 0 {
+        list.push("A good packet that the mark of an expiry saved.".to_owned());
+    }
     list.extend(rooms(ending));
     list.extend(stores(ending.figures.fullest));
     if !refusals::any_to(&ending.table, "accept") {

@@ -103,6 +103,9 @@ fn failure(ending: &Ending) -> Option<String> {
         (None, None) if !figures.losses.add_up(tally.lost) => {
             Some("the causes of losses don't add up".to_owned())
         }
+        (None, None) if !figures.losses.spared.add_up() => {
+            Some("what became of the packets that marks spared doesn't add up".to_owned())
+        }
         (None, None) => None,
     }
 }

@@ -65,12 +65,19 @@ impl Keeper {
         Ok(self.lose(cut))
     }
 
-    /// Gives up every open number below the highest accepted. Answers how many
-    /// became lost.
-    pub fn expire(&mut self) -> Answer<u32> {
+    /// The host's gap timer ended: gives up every open number before `mark`, the
+    /// highest accepted when it started. Answers how many became lost. A mark that
+    /// was kept while half the circle went by looks ahead of base again.
+    pub fn expire(&mut self, mark: u32) -> Answer<u32> {
         refuse_if(self.closed, Refusal::Closed)?;
-        let newest = self.intake.newest_past_base().ok_or(Refusal::NothingOpen)?;
-        let cut = self.bearer.numbers().forward(self.base(), newest);
+        let circle = self.bearer.numbers();
+        refuse_if(!circle.holds(mark), Refusal::NumberTooLarge)?;
+        let lies = circle.compare(self.base(), mark);
+        let is_beyond = !lies.is_before() && self.is_past_accepted(mark);
+        refuse_if(is_beyond, Refusal::MarkBeyond)?;
+        // Base is open, so it precedes every mark that lies ahead of it.
+        refuse_if(lies != Lies::Ahead, Refusal::NothingOpen)?;
+        let cut = circle.forward(self.base(), mark);
         self.judge_loss(cut)?;
         Ok(self.lose(cut))
     }
@@ -148,6 +155,14 @@ impl Keeper {
     #[must_use]
     pub const fn record_count(&self) -> usize {
         self.intake.record_count()
+    }
+
+    /// Whether `mark`, at or past base, lies past the highest accepted, or nothing
+    /// past base is accepted.
+    fn is_past_accepted(&self, mark: u32) -> bool {
+        let circle = self.bearer.numbers();
+        let newest = self.intake.newest_past_base();
+        newest.is_none_or(|newest| circle.compare(newest, mark) == Lies::Ahead)
     }
 
     /// The earliest of base, the listed numbers and the numbers with records.

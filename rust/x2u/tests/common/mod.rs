@@ -58,7 +58,7 @@ pub fn keeper_with_runs(pdcp_bits: u32, runs: u32) -> Keeper {
     for i in 0..runs {
         keeper.arrive(2 * i + 1, 2 * i + 1).unwrap();
     }
-    let _ = keeper.expire();
+    keeper.expire(2 * runs - 1).unwrap();
     assert_eq!(keeper.listed_runs().len(), runs as usize);
     keeper
 }
