@@ -38,7 +38,7 @@ pub record OpenedAlike (L first f : ℕ) (w : World) : Type 0 where
 -- it": a copy is of a packet that was sent, and fewer than M/2 were sent after it. Numbers that are no packet's reach the
 -- secondary only where it refuses them. "let status frames arrive unchanged, once, in the order built": that is
 -- what deliver does; other octets are such as the master refuses. An end is opened again only where that is refused. Both sizes of a
--- status are numbers of 32 bits, a PDU's size is any number. Everything else may happen at any time.
+-- status are numbers of 32 bits; a PDU's size and an expiry's mark are any numbers. Everything else may happen at any time.
 abbrev pub Allowed : ℕ → World → Event → Type 0
 Allowed L w (send p z) = Unit
 Allowed L w (copy i) = (i < length (w .sent)) × (length (w .sent) ≤ i + half L)

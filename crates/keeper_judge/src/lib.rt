@@ -218,7 +218,7 @@ fn arrived_base(
         return base;
     }
     let from = lost.from;
-    base_after(&numbers[from..], base, long, lost.limit, distance)
+    raised_base(&numbers[from..], base, long, lost.limit, distance)
 }
 
 // ---- what is given up
@@ -283,7 +283,7 @@ fn adjoins(ends: &[u32], start: u32, long: bool) -> bool
 }
 
 // The base when all below the distance `limit` is given up, and the number at the distance `top` has a record.
-fn base_after(above: &[u32], base: u32, long: bool, limit: u32, top: u32) -> u32
+fn raised_base(above: &[u32], base: u32, long: bool, limit: u32, top: u32) -> u32
     requires { ⌜ top < 2 ^ 24 ⌝ }
     ensures { λ r. ⌜ r ≡ raisedBase (modulus long) base (offsets (modulus long) base (now (above .entry))) limit top ⌝ }
 {

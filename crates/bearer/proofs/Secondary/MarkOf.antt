@@ -78,9 +78,9 @@ module _ (L first : ℕ) {a : Indexed} {r : Fates} {told : ℕ} (F : Follows (ha
       ⊎-elim (λ l. omega (arith, whole L, positive L)) (λ p. omega (arith, F .span j (a .base) (p .1) (mark-base a))) (received-cases j t)) in
       omega (arith, whole L, positive L)
 
-  -- beyond the last record is beyond the highest accepted, or at base where nothing from there on is accepted
-  pub highest-below : (d : ℕ) → beyondI (a .base) (indexes (a .records)) (a .base + d) ≡ true → (j : ℕ) → In j (r .received) → a .base ≤ j → j < a .base + d
-  highest-below d e j t l = is-beyond (a .base) (indexes (a .records)) (a .base + d) (F .records .rising) e j (F .records .from-base j l t) l
+  -- what is beyond the last record is past every accepted packet from base on
+  pub accepted-before : (d : ℕ) → beyondI (a .base) (indexes (a .records)) (a .base + d) ≡ true → (j : ℕ) → In j (r .received) → a .base ≤ j → j < a .base + d
+  accepted-before d e j t l = is-beyond (a .base) (indexes (a .records)) (a .base + d) (F .records .rising) e j (F .records .from-base j l t) l
 
   -- ---- which packet a mark names
 
@@ -113,7 +113,7 @@ module _ (L first : ℕ) {a : Indexed} {r : Fates} {told : ℕ} (F : Follows (ha
   mark-beyond n e =
       let d : ℕ = forwardFrom L first (a .base) n in
       let most : highest (r .received) ≤ a .base + (d - 1) = highest-most (a .base + (d - 1)) (r .received) (λ j t.
-      ⊎-elim (λ l. omega arith) (λ l. omega (arith, highest-below d e j t l)) (order j (a .base))) in
+      ⊎-elim (λ l. omega arith) (λ l. omega (arith, accepted-before d e j t l)) (order j (a .base))) in
       latest-most L first n (a .base) (highest (r .received)) (λ j l m q. omega (arith, to-packet n j l m q))
 
   -- ---- what an expiry does
@@ -144,7 +144,7 @@ module _ (L first : ℕ) {a : Indexed} {r : Fates} {told : ℕ} (F : Follows (ha
     pub none-test : K.nonePrecedes (image L first a) n ≡ eqb d 0
     none-test = ahead-past L (numberOf L first (a .base)) n on
 
-  -- of one that does, 19 isn't given and 17 is
+  -- of one that does, 19 isn't given
   pub never-beyond : (n : ℕ) → before (modulusOf L) (numberOf L first (a .base)) n ≡ true → K.markBeyond (image L first a) n ≡ false
   never-beyond n e = ap (λ (t : Bool). not t and isBeyond (modulusOf L) (numberOf L first (a .base)) (K.held (image L first a)) n) e
 

@@ -34,7 +34,7 @@ use Rattle.bearer.proofs.Secondary.ImageStatus.{index-of-at, record-at,
 use Rattle.bearer.proofs.Secondary.Follows.{Follows, record-received, recorded, follows-has}
 use Rattle.bearer.proofs.Secondary.FollowsExpiry.{not-beyond}
 use Rattle.bearer.proofs.Secondary.FollowsMeans.{follows-reach}
-use Rattle.bearer.proofs.Secondary.MarkOf.{in-highest, highest-most, highest-below}
+use Rattle.bearer.proofs.Secondary.MarkOf.{in-highest, highest-most, accepted-before}
 use Rattle.bearer.proofs.Secondary.Accounts.{indexedOf, past-first}
 use Rattle.bearer.proofs.Secondary.Floor.{floor-is}
 
@@ -120,7 +120,7 @@ module _ (L first : ℕ) {base : ℕ} {a : Account} (F : Follows (half L) (index
 
       there : beyondI base (indexes (a .records)) (base + d) ≡ true → MarkBeyond L first (a .fates) base n
       there e =
-          let below = highest-below L first F d e in (
+          let below = accepted-before L first F d e in (
             near-mark,
             ⊎-elim
                 (λ (l : 0 < d). inl (omega (arith, highest-most (base + d - 1) got (λ j t. ⊎-elim (λ before. omega arith) (λ from. omega (arith, below j t from)) (order j base)))))

@@ -38,20 +38,20 @@ returns-2 c =
     let a = c .before .before .before .args in
     rw (ne-eqb (a .distance) 0 (c .before .if1 .left), lt-ltb (a .distance) window (c .if2 .taken))
 
-mul-base-after : tie.Need-mul-base-after
-mul-base-after c = search needs
+mul-raised-base : tie.Need-mul-raised-base
+mul-raised-base c = search needs
 
-sub-base-after : tie.Need-sub-base-after
-sub-base-after c = search needs
+sub-raised-base : tie.Need-sub-raised-base
+sub-raised-base c = search needs
 
-part-base-after-start : tie.Need-part-base-after-start
-part-base-after-start c = search needs
+part-raised-base-start : tie.Need-part-raised-base-start
+part-raised-base-start c = search needs
 
-part-base-after-end : tie.Need-part-base-after-end
-part-base-after-end c = search needs
+part-raised-base-end : tie.Need-part-raised-base-end
+part-raised-base-end c = search needs
 
-base-after-requires : tie.Need-base-after-requires
-base-after-requires c κs = search needs
+raised-base-requires : tie.Need-raised-base-requires
+raised-base-requires c κs = search needs
 
 returns-3 : tie.Need-returns-3
 returns-3 c =
@@ -61,7 +61,7 @@ returns-3 c =
     let far : window ≤ a .distance = tests .if2 .left in
     let from = s .pre .3 .from-is (omega (arith, s .pre .2)) in
     rw (ne-eqb (a .distance) 0 (tests .before .if1 .left), le-ltb (a .distance) window far)
-    (c .base-after .ensures ∙ rw (rest-part (a .numbers .now) (a .lost .from), from, s .pre .2))
+    (c .raised-base .ensures ∙ rw (rest-part (a .numbers .now) (a .lost .from), from, s .pre .2))
 
 pub arrived-base-spec : {M : Type 1} → statement M
 arrived-base-spec =
@@ -75,9 +75,9 @@ arrived-base-spec =
     onward-requires
     returns
     returns-2
-    mul-base-after
-    sub-base-after
-    part-base-after-start
-    part-base-after-end
-    base-after-requires
+    mul-raised-base
+    sub-raised-base
+    part-raised-base-start
+    part-raised-base-end
+    raised-base-requires
     returns-3)

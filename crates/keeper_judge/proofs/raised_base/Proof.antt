@@ -1,4 +1,4 @@
--- `base_after`: the lowest distance that is not taken, at or past the limit. Assumes nothing.
+-- `raised_base`: the lowest distance that is not taken, at or past the limit. Assumes nothing.
 use native.Mathlib.Numerals.{add-one}
 use borrow.Author.Tests.{eq-eqb, ne-eqb}
 use Rattle.circle.specs.Lengths.{modulus}
@@ -6,8 +6,8 @@ use Rattle.bearer.specs.Losses.{offsets, lowest}
 use Rattle.keeper_loss.proofs.Gaps.{lowest-snoc}
 use mathlib.Core.Path.{_≡_, sym, _∙_}
 use borrow.Author.Needs.{needs}
-use Rattle.keeper_judge.proofs.base_after.Statement.{statement}
-use Rattle.keeper_judge.proofs.base_after.Tie as tie
+use Rattle.keeper_judge.proofs.raised_base.Statement.{statement}
+use Rattle.keeper_judge.proofs.raised_base.Tie as tie
 
 lowest-requires : tie.Need-lowest-requires
 lowest-requires c κs = search needs
@@ -39,7 +39,7 @@ returns-2 c =
     let other : a .top ≡ low → ⊥ = λ (e : a .top ≡ low). c .before .if1 .left (is ∙ sym e) in
     rw (lowest-snoc (a .limit) os (a .top), ne-eqb (a .top) low other, ← is) (c .onward2 .ensures)
 
-pub base-after-spec : {M : Type 1} → statement M
-base-after-spec =
+pub raised-base-spec : {M : Type 1} → statement M
+raised-base-spec =
     tie.close
     (tie.spec lowest-requires add-onward onward-requires returns onward-requires-2 returns-2)
