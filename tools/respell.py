@@ -96,6 +96,11 @@ def texts(*ends):
                     yield os.path.join(folder, f)
 
 
+def of_function(path):
+    """A file of a function's own proof, proofs/F/Answers.antt; the specs' Answers.antt is a module like others."""
+    return os.path.basename(path) in LEFT and os.path.basename(os.path.dirname(path)) not in ("specs", "proofs")
+
+
 def read(path):
     with open(path, encoding="utf-8") as f:
         return f.read()
@@ -104,7 +109,7 @@ def read(path):
 def declared():
     names = collections.defaultdict(set)
     for path in texts(".antt"):
-        if os.path.basename(path) in LEFT:
+        if of_function(path):
             continue
         for line in read(path).split("\n"):
             if line.startswith("use ") or line.lstrip().startswith("--"):
@@ -133,12 +138,12 @@ def crate_of(path):
     return parts[1] if parts[0] == "crates" else ""
 
 
-def turned(text, rows, kept=(), seen=None, crate="", of_function=False):
+def turned(text, rows, kept=(), seen=None, crate="", in_function=False):
     def new(m):
         word = m[0]
         if word in kept:
             return word
-        if of_function and text[m.start() - 1 : m.start()] == "." and word not in FIELDS:
+        if in_function and text[m.start() - 1 : m.start()] == "." and word not in FIELDS:
             return snake(word) if word in rows else word
         to = rows.get(word)
         if (crate, word) in OTHERWISE_IN:
@@ -154,6 +159,14 @@ def turned(text, rows, kept=(), seen=None, crate="", of_function=False):
         return to
 
     return TOKEN.sub(new, text)
+
+
+def tight(text):
+    """A text of an edit, which port.py leaves: a projection stands tight at its record, and names of the library as port.py spells them."""
+    text = re.sub(r"\((\w+(?: \.[a-z]\w*)+)\)", lambda m: m[1].replace(" .", "."), text)
+    text = re.sub(r"(?<=[\w)]) \.(?=[a-z])", ".", text)
+    text = text.replace("getD", "get_or")
+    return re.sub(r"(?<![\w«.:])[a-z]+[a-z0-9]*[A-Z]\w*", lambda m: snake(m[0]), text)
 
 
 def in_source(text, rows, crate):
@@ -186,11 +199,13 @@ def main():
     for path in texts(".antt", ".rt", ".edit"):
         text = read(path)
         kept = set()
-        if os.path.basename(path) in LEFT:
+        if of_function(path):
             kept = {m[1] for m in map(GOAL.match, text.split("\n")) if m}
         seen = collections.defaultdict(set)
         source = in_source(text, rows, crate_of(path)) if path.endswith((".rt", ".edit")) else text
-        to = turned(source, rows, kept, seen, crate_of(path), os.path.basename(path) in LEFT)
+        to = turned(source, rows, kept, seen, crate_of(path), of_function(path))
+        if path.endswith(".edit"):
+            to = "\n".join(line[:5] + tight(line[5:]) if line.startswith(("old: ", "new: ")) else line for line in to.split("\n"))
         fallen = {new: old for new, old in seen.items() if len(old) > 1}
         if fallen:
             print(f"fall: {path[len(ROOT) + 1:]}: {fallen}")

@@ -1,5 +1,6 @@
 -- What follows of tests that hold or fail, alone or together, of a choice between two values, and of answers.
 -- Assumes nothing.
+use Rattle.std.specs.Prelude.{if◌then◌else◌}
 use mathlib.Core.Path.{◌≡◌, refl, sym, ◌∙◌}
 use mathlib.Core.Bool.{Bool, true, false, true≢false}
 use mathlib.Core.Logic.{◌⊎◌, inl, inr, ⊎_elim}
@@ -7,7 +8,7 @@ use Prim.Native.Nat.{ℕ, ◌≤◌, ◌<◌}
 use native.Mathlib.Omega.{arith}
 use borrow.Author.Tests.{ltb-true, ltb-false, leb-true, eqb-true, le-leb, eq-eqb}
 use lib.Dec.{ltb, leb, eqb}
-use Rattle.basics.specs.Basics.{if◌then◌else◌, ◌and◌, ◌or◌, bit, is_set, done, refused}
+use Rattle.basics.specs.Basics.{◌and◌, ◌or◌, bit, is_set, done, refused}
 
 -- ---- a test
 

@@ -1,5 +1,6 @@
 -- How an answer is shown to be the one that its call's refusals give, test by test and part by part, and that it is the only one.
 -- Assumes nothing.
+use Rattle.std.specs.Prelude.{if◌then◌else◌}
 use mathlib.Core.Path.{◌≡◌, refl, sym, ◌∙◌, ap}
 use mathlib.Core.Bool.{Bool, true, false, not}
 use mathlib.Core.List.{List, [], ◌∷◌, ◌++◌}
@@ -8,7 +9,7 @@ use Prim.Native.Nat.{ℕ, ◌≤◌, ◌<◌}
 use native.Mathlib.Omega.{arith}
 use borrow.Author.Tests.{ltb-true, lt-ltb, leb-true, le-leb, eqb-true, eq-eqb}
 use lib.Dec.{ltb, leb, eqb}
-use Rattle.basics.specs.Basics.{if◌then◌else◌, ◌and◌, ◌or◌, Outcome, refused, is_done, all}
+use Rattle.basics.specs.Basics.{◌and◌, ◌or◌, Outcome, refused, is_done, all}
 use Rattle.basics.specs.Refusals.{Refusal, ◌when◌, Given, Some}
 use Rattle.basics.proofs.Choices.{contrary, refuted, order, and_true, or_true, or_left, or_right}
 

@@ -2,12 +2,6 @@
 -- Assumes nothing.
 use Rattle.std.specs.Prelude.{Bool, true, false, not, List, [], ◌∷◌, ℕ, eqb}
 
-infixr 5 if◌then◌else◌
--- one of two values, by a test
-abbrev pub if◌then◌else◌ : {A : Type 0} → Bool → A → A → A
-if◌then◌else◌ true a b = a
-if◌then◌else◌ false a b = b
-
 -- both tests hold
 infixr 30 ◌and◌
 abbrev pub ◌and◌ : Bool → Bool → Bool

@@ -1,4 +1,6 @@
 // Leaves that every layer uses: the lesser of two counts, a number for yes or no, and the front of a lent array.
+#![tactic(auto)]
+
 ghost use Rattle.std.specs.Prelude.{◌≡◌, min, take};
 ghost use Rattle.basics.specs.Basics.{bit, is_set as «is_set_of»};
 

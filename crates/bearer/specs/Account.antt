@@ -2,8 +2,8 @@
 -- what its accepted calls make of the packets' fates (Rule.antt), of the records, of what was reported and of the end itself. Nothing that the
 -- machines do is used here.
 -- Assumes nothing.
-use Rattle.std.specs.Prelude.{◌≡◌, Bool, true, false, List, [], ◌∷◌, ◌++◌, map, ℕ, zero, suc, ◌+◌, ◌-◌, ◌<◌, ltb, eqb, length, take, drop}
-use Rattle.basics.specs.Basics.{if◌then◌else◌, ◌and◌, ◌or◌, some_in}
+use Rattle.std.specs.Prelude.{◌≡◌, Bool, true, false, List, [], ◌∷◌, ◌++◌, map, ℕ, zero, suc, ◌+◌, ◌-◌, ◌<◌, ltb, eqb, length, take, drop, if◌then◌else◌}
+use Rattle.basics.specs.Basics.{◌and◌, ◌or◌, some_in}
 use Rattle.circle.specs.Lengths.{is_long}
 use Rattle.frame_layout.specs.Frames.{Range, Status}
 use Rattle.bearer.specs.Losses.{Gap}

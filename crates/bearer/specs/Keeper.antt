@@ -4,10 +4,10 @@
 -- What these mean on packet indexes that never roll over is proved apart (KeeperMeaning.antt): base is the lowest open
 -- number, the runs are the maximal runs of lost and unreported numbers, the records stand in sending order.
 -- Assumes nothing.
-use Rattle.std.specs.Prelude.{Bool, true, false, not, List, [], ◌∷◌, ◌++◌, map, ℕ, zero, suc, ◌+◌, ◌-◌, ◌%◌, ltb, leb, eqb, length, get_or, take, drop, set}
+use Rattle.std.specs.Prelude.{Bool, true, false, not, List, [], ◌∷◌, ◌++◌, map, ℕ, zero, suc, ◌+◌, ◌-◌, ◌%◌, ltb, leb, eqb, length, get_or, take, drop, set, if◌then◌else◌}
 use Rattle.circle.specs.Circle.{forward}
 use Rattle.circle.specs.Sides.{Side, same, ahead, behind, opposite, lies}
-use Rattle.basics.specs.Basics.{if◌then◌else◌, ◌and◌, ◌or◌, Outcome, done, refused}
+use Rattle.basics.specs.Basics.{◌and◌, ◌or◌, Outcome, done, refused}
 use Rattle.frame_layout.specs.Frames.{Range, Status, Written, most_ranges, starts_of, write_status}
 use Rattle.bearer.specs.Bearer.{window, most_runs, most_records, After, refusing, answering}
 use Rattle.circle.specs.Lengths.{is_length, is_long, modulus_of, half, pdcps, pdcp_before}
@@ -81,8 +81,8 @@ fresh_keeper L first f = record {
 abbrev pub open_keeper : ℕ → ℕ → ℕ → Outcome Keeper
 open_keeper L first f =
     if not (is_length L) then refused 7 else
-    if not (ltb first (modulus_of L) and ltb f (pdcps L)) then refused 10 else
-    done (fresh_keeper L first f)
+    (if not (ltb first (modulus_of L) and ltb f (pdcps L)) then refused 10 else
+    done (fresh_keeper L first f))
 
 -- ---- the state, seen from base
 
@@ -137,8 +137,8 @@ limit_of d = suc d - window
 abbrev pub base_arrived : ℕ → ℕ → List ℕ → ℕ → ℕ → ℕ
 base_arrived M base ns i d =
     if eqb d 0 then (base + lowest 1 (offsets M base (drop i ns))) % M else
-    if ltb d window then base else
-    raised_base M base (above_base M base ns) (limit_of d) d
+    (if ltb d window then base else
+    raised_base M base (above_base M base ns) (limit_of d) d)
 
 -- the base after an arrival
 abbrev pub arrived_base : Keeper → ℕ → ℕ → ℕ
@@ -160,10 +160,10 @@ arrived k n p i d = k with_base arrived_base k i d with_runs runs_after k (limit
 abbrev pub arrive_at : Keeper → ℕ → ℕ → ℕ → ℕ → After Keeper ℕ
 arrive_at k n p i d =
     if has_record k n i then refusing 12 k else
-    if leb (half k.bits) (floor k + d) then refusing 13 k else
-    if ltb most_runs (length (runs_after k (limit_of d))) then refusing 14 k else
-    if leb most_records (length k.records) then refusing 15 k else
-    answering (size_of (given_up k (limit_of d))) (arrived k n p i d)
+    (if leb (half k.bits) (floor k + d) then refusing 13 k else
+    (if ltb most_runs (length (runs_after k (limit_of d))) then refusing 14 k else
+    (if leb most_records (length k.records) then refusing 15 k else
+    answering (size_of (given_up k (limit_of d))) (arrived k n p i d))))
 
 -- one that doesn't lie before base: by its place among the records and its distance
 abbrev pub arrive_on : Keeper → ℕ → ℕ → After Keeper ℕ
@@ -180,8 +180,8 @@ arrive_by k n p ahead = arrive_on k n p
 abbrev pub arrive : Keeper → ℕ → ℕ → After Keeper ℕ
 arrive k n p =
     if k.closed then refusing 9 k else
-    if not (ltb n (modulus_of k.bits) and ltb p (pdcps k.bits)) then refusing 10 k else
-    arrive_by k n p (lies (modulus_of k.bits) k.base n)
+    (if not (ltb n (modulus_of k.bits) and ltb p (pdcps k.bits)) then refusing 10 k else
+    arrive_by k n p (lies (modulus_of k.bits) k.base n))
 
 -- ---- expiry
 
@@ -203,10 +203,10 @@ expire_below k d =
 abbrev pub expire : Keeper → ℕ → After Keeper ℕ
 expire k n =
     if k.closed then refusing 9 k else
-    if leb (modulus_of k.bits) n then refusing 10 k else
-    if mark_beyond k n then refusing 19 k else
-    if none_precedes k n then refusing 17 k else
-    expire_below k (forward (modulus_of k.bits) k.base n)
+    (if leb (modulus_of k.bits) n then refusing 10 k else
+    (if mark_beyond k n then refusing 19 k else
+    (if none_precedes k n then refusing 17 k else
+    expire_below k (forward (modulus_of k.bits) k.base n))))
 
 -- ---- confirm
 
@@ -237,9 +237,9 @@ confirm_at k n i =
 abbrev pub confirm : Keeper → ℕ → After Keeper Unit
 confirm k n =
     if k.closed then refusing 9 k else
-    if not (ltb n (modulus_of k.bits)) then refusing 10 k else
-    if leb (length (held k)) (index_of n (held k)) then refusing 16 k else
-    confirm_at k n (index_of n (held k))
+    (if not (ltb n (modulus_of k.bits)) then refusing 10 k else
+    (if leb (length (held k)) (index_of n (held k)) then refusing 16 k else
+    confirm_at k n (index_of n (held k))))
 
 -- ---- status
 
@@ -304,8 +304,8 @@ final_too_early k final = final and ltb most_ranges (length k.runs)
 abbrev pub status : Keeper → ℕ → ℕ → Bool → List ℕ → Reported
 status k desired minimum final d =
     if k.closed then unreported 9 k d else
-    if final_too_early k final then unreported 22 k d else
-    reported_as k final (write_status (status_now k desired minimum final) d)
+    (if final_too_early k final then unreported 22 k d else
+    reported_as k final (write_status (status_now k desired minimum final) d))
 
 -- ---- anything to say
 

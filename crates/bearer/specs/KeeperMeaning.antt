@@ -4,8 +4,8 @@
 -- Account.antt in proofs/Secondary/RunsIn.antt. `AnythingLooks` and `AnythingAgrees` are of every state; they are proved in
 -- proofs/Answers/Anything.antt. Which calls are refused: Refusals.antt.
 -- Assumes nothing.
-use Rattle.std.specs.Prelude.{◌≡◌, Bool, true, false, List, [], ◌++◌, map, ℕ, ◌+◌, ◌^◌, ◌≤◌, ◌<◌, ltb, length, take, drop}
-use Rattle.basics.specs.Basics.{if◌then◌else◌, ◌or◌, some_in, done, refused}
+use Rattle.std.specs.Prelude.{◌≡◌, Bool, true, false, List, [], ◌++◌, map, ℕ, ◌+◌, ◌^◌, ◌≤◌, ◌<◌, ltb, length, take, drop, if◌then◌else◌}
+use Rattle.basics.specs.Basics.{◌or◌, some_in, done, refused}
 use Rattle.circle.specs.Lengths.{modulus_of, half}
 use Rattle.frame_layout.specs.Frames.{read_frame, status_octets}
 use Rattle.bearer.specs.Losses.{Gap}

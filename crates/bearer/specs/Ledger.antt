@@ -3,9 +3,9 @@
 -- keeps). Every definition is total. An entry bears a label of any type, which no definition looks at: the engine's entries bear none (Unit),
 -- and demand 3 writes the packet's own name on it.
 -- Assumes nothing.
-use Rattle.std.specs.Prelude.{Bool, true, false, not, List, [], ◌∷◌, ◌++◌, ℕ, suc, ◌+◌, ◌-◌, ◌/◌, ◌%◌, min, ltb, leb, eqb, length, take, drop}
+use Rattle.std.specs.Prelude.{Bool, true, false, not, List, [], ◌∷◌, ◌++◌, ℕ, suc, ◌+◌, ◌-◌, ◌/◌, ◌%◌, min, ltb, leb, eqb, length, take, drop, if◌then◌else◌}
 use Rattle.std.proofs.Math.Option.{Option, none, some}
-use Rattle.basics.specs.Basics.{if◌then◌else◌, ◌and◌, ◌or◌, alike, Outcome, done, refused}
+use Rattle.basics.specs.Basics.{◌and◌, ◌or◌, alike, Outcome, done, refused}
 use Rattle.circle.specs.Circle.{forward}
 use Rattle.circle.specs.Lengths.{is_length, is_long, modulus_of, pdcps, pdcp_before}
 use Rattle.frame_layout.specs.Frames.{Range, Status, Reading, data_of, status_of, refuse, read_frame}
@@ -119,8 +119,8 @@ fresh_ledger L first f = fresh L first (pdcp_before L f) false
 abbrev pub open_ledger : {A : Type 0} → ℕ → ℕ → ℕ → Outcome (Ledger A)
 open_ledger L first f =
     if not (is_length L) then refused 7 else
-    if not (ltb first (modulus_of L) and ltb f (pdcps L)) then refused 10 else
-    done (fresh_ledger L first f)
+    (if not (ltb first (modulus_of L) and ltb f (pdcps L)) then refused 10 else
+    done (fresh_ledger L first f))
 
 -- ---- send
 
@@ -166,11 +166,11 @@ sent_state l p z a =
 abbrev pub send : {A : Type 0} → Ledger A → ℕ → ℕ → A → After (Ledger A) ℕ
 send l p z a =
     if l.closed then refusing 9 l else
-    if not (ltb p (pdcps l.bits)) then refusing 10 l else
-    if not (is_size z) then refusing 39 l else
-    if not (is_in_order l p) then refusing 35 l else
-    if leb most_entries (length l.entries) then refusing 36 l else
-    answering l.next (sent_state l p z a)
+    (if not (ltb p (pdcps l.bits)) then refusing 10 l else
+    (if not (is_size z) then refusing 39 l else
+    (if not (is_in_order l p) then refusing 35 l else
+    (if leb most_entries (length l.entries) then refusing 36 l else
+    answering l.next (sent_state l p z a)))))
 
 -- ---- where the oldest waiting entry stands, and how much waits
 
@@ -247,8 +247,8 @@ abbrev pub free_through : {A : Type 0} → ℕ → List (Entry A) → Passed A
 free_through h [] = record { entries = []; count = 0 }
 free_through h (e ∷ es) =
     if not (waits e) then kept e (free_through h es) else
-    if eqb e.pdcp h then record { entries = es; count = 1 } else
-    counted (free_through h es)
+    (if eqb e.pdcp h then record { entries = es; count = 1 } else
+    counted (free_through h es))
 
 -- a highest equal to H frees none
 abbrev pub freed : {A : Type 0} → Ledger A → ℕ → List (Entry A) → Passed A
@@ -286,8 +286,8 @@ marking l s = mark_lost l.bits l.entries s.ranges
 abbrev pub accept_status : {A : Type 0} → Ledger A → Status → After (Ledger A) Accepted
 accept_status l s =
     if not (alike s.long (is_long l.bits)) then refusing 31 l else
-    if leb (pdcps l.bits) s.highest then refusing 32 l else
-    accept_marked l s (marking l s)
+    (if leb (pdcps l.bits) s.highest then refusing 32 l else
+    accept_marked l s (marking l s))
 
 -- what was read: its refusal, 31 for a data frame, or a status
 abbrev pub accept_reading : {A : Type 0} → Ledger A → Reading → After (Ledger A) Accepted

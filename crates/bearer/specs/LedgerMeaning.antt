@@ -4,8 +4,8 @@
 -- `StatusesMean`, proved in proofs/Master/LedgerMeans.antt, and `CallsMean`, `SumsKept` and `RoomWithoutEntries`, proved in
 -- proofs/Master/Unlabelled.antt.
 -- Assumes nothing.
-use Rattle.std.specs.Prelude.{◌≡◌, true, false, not, Bool, List, [], ◌∷◌, ◌++◌, map, ℕ, ◌+◌, ◌*◌, ◌-◌, ◌^◌, ◌≤◌, ◌<◌, length, get_or}
-use Rattle.basics.specs.Basics.{if◌then◌else◌, done, ◌or◌}
+use Rattle.std.specs.Prelude.{◌≡◌, true, false, not, Bool, List, [], ◌∷◌, ◌++◌, map, ℕ, ◌+◌, ◌*◌, ◌-◌, ◌^◌, ◌≤◌, ◌<◌, length, get_or, if◌then◌else◌}
+use Rattle.basics.specs.Basics.{done, ◌or◌}
 use Rattle.circle.specs.Circle.{forward}
 use Rattle.frame_layout.specs.Frames.{Status, status_of, read_frame}
 use Rattle.bearer.specs.Ledger.{waiting, lost, Entry, Ledger, Accepted, Taken, open_ledger, send, accept, take_oldest, room, kept_room, ◌with_entries◌}

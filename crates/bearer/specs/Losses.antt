@@ -2,10 +2,10 @@
 -- secondary's machine (Keeper.antt). Two numbers are compared by how one lies to the other (the crate circle, Sides.antt); distances are
 -- forward from base. Every definition is total.
 -- Assumes nothing.
-use Rattle.std.specs.Prelude.{Bool, true, false, not, List, [], ◌∷◌, ◌++◌, map, ℕ, zero, suc, ◌+◌, ◌-◌, ◌%◌, max, ltb, leb, eqb, get_or, drop}
+use Rattle.std.specs.Prelude.{Bool, true, false, not, List, [], ◌∷◌, ◌++◌, map, ℕ, zero, suc, ◌+◌, ◌-◌, ◌%◌, max, ltb, leb, eqb, get_or, drop, if◌then◌else◌}
 use Rattle.circle.specs.Circle.{forward}
 use Rattle.circle.specs.Sides.{Side, same, ahead, behind, opposite, lies}
-use Rattle.basics.specs.Basics.{if◌then◌else◌, ◌and◌, ◌or◌, all}
+use Rattle.basics.specs.Basics.{◌and◌, ◌or◌, all}
 use Rattle.frame_layout.specs.Frames.{Range}
 
 -- ---- where numbers lie

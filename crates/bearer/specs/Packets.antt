@@ -1,8 +1,7 @@
 -- The words in which statements speak of packets: their numbers, the packets of entries and of ranges, and lists of them. A packet is an
 -- index that never rolls over: packet 0 is the first one sent, 1 the next.
 -- Assumes nothing.
-use Rattle.std.specs.Prelude.{◌≡◌, true, List, [], ◌∷◌, ◌++◌, map, ℕ, zero, suc, ◌+◌, ◌-◌, ◌%◌, ◌^◌, ◌<◌, eqb}
-use Rattle.basics.specs.Basics.{if◌then◌else◌}
+use Rattle.std.specs.Prelude.{◌≡◌, true, List, [], ◌∷◌, ◌++◌, map, ℕ, zero, suc, ◌+◌, ◌-◌, ◌%◌, ◌^◌, ◌<◌, eqb, if◌then◌else◌}
 use Rattle.circle.specs.Circle.{forward}
 use Rattle.circle.specs.Sides.{Side, lies}
 use Rattle.circle.specs.Lengths.{modulus_of}

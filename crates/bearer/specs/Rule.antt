@@ -1,8 +1,8 @@
 -- The secondary's rule in document 01's own sentences, as document 02's requests changed them, on packet indexes: packet 0 is the first one
 -- sent, 1 the next, and indexes never roll over. No definition of the machines is used here.
 -- Assumes nothing.
-use Rattle.std.specs.Prelude.{◌≡◌, Bool, true, false, not, List, [], ◌∷◌, ◌++◌, ℕ, zero, suc, ◌-◌, ◌<◌, max, eqb}
-use Rattle.basics.specs.Basics.{if◌then◌else◌, ◌and◌, ◌or◌}
+use Rattle.std.specs.Prelude.{◌≡◌, Bool, true, false, not, List, [], ◌∷◌, ◌++◌, ℕ, zero, suc, ◌-◌, ◌<◌, max, eqb, if◌then◌else◌}
+use Rattle.basics.specs.Basics.{◌and◌, ◌or◌}
 
 -- "Each number from the first on is open, received or lost": the received, and the lost in the order they were declared
 pub record Fates : Type 0 where

@@ -2,8 +2,8 @@
 -- demand 3 speaks of (Demand3.antt). The two ends are the very machines that the engines' contracts cite (Keeper.antt, Ledger.antt), at
 -- document 01's constants; the written rule is Rule.antt, and Packets.antt says which packet a mark names.
 -- Assumes nothing.
-use Rattle.std.specs.Prelude.{Bool, false, List, [], ◌∷◌, ◌++◌, ℕ, suc, max, eqb, length, get_or, take, drop}
-use Rattle.basics.specs.Basics.{if◌then◌else◌, ◌or◌, Outcome, done, refused, is_done}
+use Rattle.std.specs.Prelude.{Bool, false, List, [], ◌∷◌, ◌++◌, ℕ, suc, max, eqb, length, get_or, take, drop, if◌then◌else◌}
+use Rattle.basics.specs.Basics.{◌or◌, Outcome, done, refused, is_done}
 use Rattle.frame_layout.specs.Frames.{Reading, data_of, status_of, refuse, read_frame}
 use Rattle.bearer.specs.Bearer.{After}
 use Rattle.bearer.specs.Keeper as K

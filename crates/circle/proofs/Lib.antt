@@ -1,2 +1,3 @@
 pub mod Wrapped
 pub mod Forms
+pub mod Sides

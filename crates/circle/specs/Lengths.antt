@@ -1,8 +1,8 @@
 -- The two number circles of a bearer (document 01, "Two ends of one bearer"): X2-U numbers are below M, which the form fixes, and PDCP
 -- numbers below 2^L. In all definitions and code `modulus` is M and `bits` is L.
 -- Assumes nothing.
-use Rattle.std.specs.Prelude.{ℕ, ◌+◌, ◌-◌, ◌/◌, ◌%◌, ◌^◌, Bool, true, false, ◌==◌, nat_eq}
-use Rattle.basics.specs.Basics.{if◌then◌else◌, ◌or◌}
+use Rattle.std.specs.Prelude.{ℕ, ◌+◌, ◌-◌, ◌/◌, ◌%◌, ◌^◌, Bool, true, false, ◌==◌, nat_eq, if◌then◌else◌}
+use Rattle.basics.specs.Basics.{◌or◌}
 
 -- ---- the form
 
@@ -19,7 +19,7 @@ is_length L = nat_eq L 12 or nat_eq L 15 or nat_eq L 18
 
 -- a word of any content as L: one that is none of the three counts as 18
 abbrev pub length_in : ℕ → ℕ
-length_in x = if x == 12 then 12 else if x == 15 then 15 else 18
+length_in x = if x == 12 then 12 else (if x == 15 then 15 else 18)
 
 -- with 18 bits the form is long
 abbrev pub is_long : ℕ → Bool

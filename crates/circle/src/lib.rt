@@ -1,5 +1,7 @@
 // Numbers on a circle: how far it is forward from one number to another, how one lies to another, and the two circles of a bearer. `long` is the form, whose
 // X2-U numbers are below its modulus; `bits` is L, the length of its PDCP numbers, and one that is none of document 01's counts as 18.
+#![tactic(auto)]
+
 ghost use Rattle.std.specs.Prelude.{◌≡◌, ◌+◌, ◌/◌, ◌%◌, ◌^◌, ◌<◌, min};
 ghost use Rattle.circle.specs.Circle.{forward as «forward_of»};
 ghost use Rattle.circle.specs.Sides.{lies as «lies_of»};

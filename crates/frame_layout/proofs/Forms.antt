@@ -1,12 +1,13 @@
 -- What holds of both forms, and of a status with a list and without.
 -- Assumes nothing.
+use Rattle.std.specs.Prelude.{if◌then◌else◌}
 use mathlib.Core.Path.{◌≡◌, refl}
 use mathlib.Core.Bool.{Bool, true, false}
 use mathlib.Core.List.{List, [], ◌∷◌}
 use Prim.Native.Nat.{ℕ, ◌+◌, ◌*◌, ◌^◌, ◌≤◌, ◌<◌}
 use native.Mathlib.Omega.{arith}
 use lib.ListN.{length}
-use Rattle.basics.specs.Basics.{if◌then◌else◌, bit, some_in}
+use Rattle.basics.specs.Basics.{bit, some_in}
 use Rattle.frame_layout.specs.Frames.{width, most_highest, data_type, status_type, most_ranges, Range, Status, count_at, list_at}
 use Rattle.frame_layout.specs.Refusals.{layout_of}
 use Rattle.frame_layout.specs.Trips.{data_frame, status_frame, before_padding}

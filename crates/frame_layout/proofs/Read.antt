@@ -1,5 +1,6 @@
 -- When octets are read as a frame: what stands in them then, and that the frame can be written.
 -- Assumes nothing.
+use Rattle.std.specs.Prelude.{if◌then◌else◌}
 use mathlib.Core.Path.{◌≡◌, refl, sym, ◌∙◌, ap, subst}
 use mathlib.Core.Bool.{Bool, true, false}
 use mathlib.Core.List.{List}
@@ -8,7 +9,7 @@ use native.Mathlib.Omega.{arith}
 use borrow.Author.Tests.{le-ltb, ltb-false, eqb-true}
 use lib.Dec.{ltb, eqb}
 use lib.ListN.{length, get_or}
-use Rattle.basics.specs.Basics.{if◌then◌else◌, is_done}
+use Rattle.basics.specs.Basics.{is_done}
 use Rattle.frame_layout.specs.Octets.{field}
 use Rattle.frame_layout.specs.Frames.{width, most_highest, data_type, status_type, most_ranges, Reading, status_of, refuse, type_in, listed_in, bad_length, count_refused, desired_at, minimum_at, count_at, list_at, count_in, fixed_end, list_end, status_in, read_data, read_status, read_type, read_frame}
 use Rattle.frame_layout.specs.Refusals.{answered}

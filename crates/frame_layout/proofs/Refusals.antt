@@ -1,5 +1,6 @@
 -- Reading and writing give document 01's refusals exactly when their sentences hold, the first that applies (specs/Refusals.antt).
 -- Assumes nothing.
+use Rattle.std.specs.Prelude.{if◌then◌else◌}
 use mathlib.Core.Path.{◌≡◌, refl, sym, ◌∙◌}
 use mathlib.Core.Bool.{Bool, true, false, not}
 use mathlib.Core.List.{List, [], ◌∷◌}
@@ -9,7 +10,7 @@ use native.Mathlib.Omega.{arith}
 use borrow.Author.Tests.{ltb-true, ltb-false, lt-ltb, eqb-true, eqb-false}
 use lib.Dec.{ltb, eqb}
 use lib.ListN.{length, get_or}
-use Rattle.basics.specs.Basics.{if◌then◌else◌, Outcome, all}
+use Rattle.basics.specs.Basics.{Outcome, all}
 use Rattle.basics.specs.Refusals.{Refusal, ◌when◌, Given, Some}
 use Rattle.circle.specs.Lengths.{modulus}
 use Rattle.frame_layout.specs.Octets.{field}

@@ -1,6 +1,7 @@
 -- The octets of a frame that was read are those that it was read from, up to the last field and but for the spare bits; and whole, where they
 -- are canonical.
 -- Assumes nothing.
+use Rattle.std.specs.Prelude.{if◌then◌else◌}
 use mathlib.Core.Path.{◌≡◌, refl, sym, ◌∙◌, ap, ap₂, subst}
 use mathlib.Core.Bool.{Bool, true, false}
 use mathlib.Core.List.{List, [], ◌∷◌, ◌++◌}
@@ -11,7 +12,7 @@ use borrow.Author.Tests.{eqb-false}
 use lib.Dec.{ltb, eqb}
 use lib.ListN.{length, get_or, take, drop}
 use lib.Seq.{drop-cons}
-use Rattle.basics.specs.Basics.{if◌then◌else◌, bit, some_in}
+use Rattle.basics.specs.Basics.{bit, some_in}
 use Rattle.frame_layout.specs.Octets.{octets, field}
 use Rattle.frame_layout.specs.Frames.{width, data_type, status_type, most_ranges, Range, first_octet, padded, range_octets, list_octets, type_in, final_in, listed_in, count_refused, ranges_at, desired_at, minimum_at, count_at, list_at, count_in, list_end, status_in}
 use Rattle.frame_layout.specs.Trips.{AreOctets, Frame, data_frame, status_frame, frame_octets, spare_in, before_padding, Canonical, cleared}

@@ -1,5 +1,6 @@
 -- Both round trips of frames, for all four types at once and every buffer with room: the statements of specs/Trips.antt.
 -- Assumes nothing.
+use Rattle.std.specs.Prelude.{if◌then◌else◌}
 use mathlib.Core.Path.{◌≡◌, refl, sym, ◌∙◌, ap, subst}
 use mathlib.Core.Bool.{Bool, true, false}
 use mathlib.Core.List.{List}
@@ -8,7 +9,7 @@ use borrow.Author.Tests.{le-ltb, lt-ltb, ltb-false}
 use lib.Dec.{ltb}
 use lib.ListN.{length, take, drop}
 use lib.Seq.{take-append_seam}
-use Rattle.basics.specs.Basics.{if◌then◌else◌, all, done}
+use Rattle.basics.specs.Basics.{all, done}
 use Rattle.basics.proofs.Choices.{never_done}
 use Rattle.circle.specs.Lengths.{modulus}
 use Rattle.frame_layout.specs.Frames.{most_highest, most_ranges, Status, data_octets, status_octets, read_frame, Written, unwritten, place, in_form, write_status}

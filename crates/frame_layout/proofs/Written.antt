@@ -1,6 +1,7 @@
 -- The octets of a frame that can be written: their number, that they are octets, that they are canonical, and that a reader
 -- finds in them what the frame says.
 -- Assumes nothing.
+use Rattle.std.specs.Prelude.{if◌then◌else◌}
 use mathlib.Core.Path.{◌≡◌, refl, sym, ◌∙◌, ap, ap₂}
 use mathlib.Core.Bool.{Bool, true, false}
 use mathlib.Core.List.{List, [], ◌∷◌, ◌++◌, append_assoc}
@@ -9,7 +10,7 @@ use native.Mathlib.Omega.{arith}
 use borrow.Author.Tests.{le-ltb, ne_eqb}
 use lib.ListN.{length, get_or, replicate, length-append}
 use lib.Seq.{get_or_at}
-use Rattle.basics.specs.Basics.{if◌then◌else◌, bit, all, some_in}
+use Rattle.basics.specs.Basics.{bit, all, some_in}
 use Rattle.frame_layout.specs.Octets.{octets, field}
 use Rattle.frame_layout.specs.Frames.{width, data_type, status_type, most_ranges, Range, Status, first_octet, padding, data_octets, range_octets, list_octets, status_octets, data_of, status_of, refuse, type_in, listed_in, count_refused, ranges_at, desired_at, minimum_at, count_at, list_at, count_in, list_end, status_in, read_data, read_status, read_type, read_frame, in_form}
 use Rattle.frame_layout.specs.Trips.{AreOctets, GoodLength, data_frame, status_frame, WritableStatus, before_padding, Fewest, Canonical}

@@ -3,8 +3,8 @@
 --
 -- The form is short (types 0 and 1) or long (types 2 and 3), said by one Bool: true is long.
 -- Assumes nothing.
-use Rattle.std.specs.Prelude.{Bool, true, false, not, List, [], ◌∷◌, ◌++◌, map, ℕ, zero, suc, ◌+◌, ◌-◌, ◌*◌, ◌/◌, ◌%◌, ◌≤◌, ltb, eqb, length, get_or, drop, replicate}
-use Rattle.basics.specs.Basics.{if◌then◌else◌, ◌and◌, ◌or◌, bit, Outcome, done, refused, all, some_in}
+use Rattle.std.specs.Prelude.{Bool, true, false, not, List, [], ◌∷◌, ◌++◌, map, ℕ, zero, suc, ◌+◌, ◌-◌, ◌*◌, ◌/◌, ◌%◌, ◌≤◌, ltb, eqb, length, get_or, drop, replicate, if◌then◌else◌}
+use Rattle.basics.specs.Basics.{◌and◌, ◌or◌, bit, Outcome, done, refused, all, some_in}
 use Rattle.circle.specs.Lengths.{modulus}
 use Rattle.frame_layout.specs.Octets.{octets, field}
 
@@ -172,10 +172,10 @@ status_in long s = record {
 abbrev pub read_status : Bool → List ℕ → Reading
 read_status long s =
     if ltb (length s) (fixed_end s (width long)) then refuse 3 else
-    if ltb (most_highest long) (field s 1 (width long)) then refuse 4 else
-    if count_refused (listed_in s) (count_in s (width long)) then refuse 5 else
-    if ltb (length s) (list_end s (width long)) then refuse 6 else
-    status_of (status_in long s)
+    (if ltb (most_highest long) (field s 1 (width long)) then refuse 4 else
+    (if count_refused (listed_in s) (count_in s (width long)) then refuse 5 else
+    (if ltb (length s) (list_end s (width long)) then refuse 6 else
+    status_of (status_in long s))))
 
 -- types 0 and 3: the number, which every frame that is long enough to be one holds
 abbrev pub read_data : Bool → List ℕ → Reading
@@ -185,10 +185,10 @@ read_data long s = data_of long (field s 1 (width long))
 abbrev pub read_type : ℕ → List ℕ → Reading
 read_type t s =
     if eqb t 0 then read_data false s else
-    if eqb t 1 then read_status false s else
-    if eqb t 2 then read_status true s else
-    if eqb t 3 then read_data true s else
-    refuse 2
+    (if eqb t 1 then read_status false s else
+    (if eqb t 2 then read_status true s else
+    (if eqb t 3 then read_data true s else
+    refuse 2)))
 
 -- any octets: 1, or by the type
 abbrev pub read_frame : List ℕ → Reading
@@ -228,9 +228,9 @@ in_form long r = ltb r.start (modulus long) and ltb r.end (modulus long)
 abbrev pub write_status : Status → List ℕ → Written
 write_status s d =
     if ltb (most_highest s.long) s.highest then unwritten 4 d else
-    if ltb most_ranges (length s.ranges) then unwritten 5 d else
-    if all (in_form s.long) s.ranges then place (status_octets s) d else
-    unwritten 10 d
+    (if ltb most_ranges (length s.ranges) then unwritten 5 d else
+    (if all (in_form s.long) s.ranges then place (status_octets s) d else
+    unwritten 10 d))
 
 -- ---- ranges as two lists of numbers
 

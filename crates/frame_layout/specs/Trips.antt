@@ -1,8 +1,8 @@
 -- What the round trips speak of, and their statements: what was written is read again, and what was read is written again, for all four types at
 -- once and every buffer with room. They are proved in proofs/Trips.antt, `WritesLeave` in proofs/Within.antt.
 -- Assumes nothing.
-use Rattle.std.specs.Prelude.{◌≡◌, Bool, true, false, List, [], ◌∷◌, ◌++◌, ℕ, ◌+◌, ◌*◌, ◌/◌, ◌%◌, ◌^◌, ◌≤◌, ◌<◌, length, get_or, take, drop, replicate}
-use Rattle.basics.specs.Basics.{if◌then◌else◌, done, all, some_in}
+use Rattle.std.specs.Prelude.{◌≡◌, Bool, true, false, List, [], ◌∷◌, ◌++◌, ℕ, ◌+◌, ◌*◌, ◌/◌, ◌%◌, ◌^◌, ◌≤◌, ◌<◌, length, get_or, take, drop, replicate, if◌then◌else◌}
+use Rattle.basics.specs.Basics.{done, all, some_in}
 use Rattle.circle.specs.Lengths.{modulus}
 use Rattle.frame_layout.specs.Frames.{most_highest, most_ranges, least_octets, most_octets, Status, padding, padded, data_octets, status_octets, Reading, data_of, status_of, read_frame, Written, unwritten, in_form, write_data, write_status}
 use Rattle.frame_layout.specs.Refusals.{layout_of}

@@ -1,5 +1,7 @@
 // The frames of TS 36.425 V15.0.0, 5.5: the figures of the layout and what the two forms differ in, for reader and writer. The
 // layout itself stands in specs/Frames.antt, on lists of octets.
+#![tactic(auto)]
+
 ghost use Rattle.std.specs.Prelude.{◌≡◌, ◌≤◌, ◌<◌};
 ghost use Rattle.frame_layout.specs.Frames.{width as «width_of», most_highest as «most_highest_of», data_type as «data_type_of», status_type as «status_type_of», count_at as «count_at_of», list_at as «list_at_of», padding as «padding_of»};
 

@@ -2,6 +2,8 @@
 // one of these numbers, so no other place of the code says a number.
 
 // Reading and writing frames.
+#![tactic(auto)]
+
 pub const LENGTH: u32 = 1; // length below 6, above 1,018, or not 4k - 2
 
 pub const RESERVED: u32 = 2; // type 4 to 15

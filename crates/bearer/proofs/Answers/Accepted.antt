@@ -1,11 +1,12 @@
 -- What an accepted call has passed, of either machine: none of its tests refused it, and an open that is accepted leaves a fresh end.
 -- Assumes nothing.
+use Rattle.std.specs.Prelude.{if◌then◌else◌}
 use mathlib.Core.Path.{◌≡◌, refl, ap}
 use mathlib.Core.Bool.{Bool, true, false, not}
 use Prim.Native.Nat.{ℕ, ◌<◌}
 use borrow.Author.Tests.{ltb-true}
 use lib.Dec.{ltb}
-use Rattle.basics.specs.Basics.{if◌then◌else◌, ◌and◌, done, refused}
+use Rattle.basics.specs.Basics.{◌and◌, done, refused}
 use Rattle.basics.proofs.Choices.{and_true, never_done, done_one}
 use Rattle.circle.specs.Lengths.{is_length, modulus_of, pdcps}
 use Rattle.bearer.specs.Bearer.{After, refusing}
@@ -31,11 +32,11 @@ pub record Opened {A : Type 0} (L first : ℕ) (fresh a : A) : Type 0 where
   pub is : fresh ≡ a
 
 pub opened : {A : Type 0} (L first f : ℕ) (fresh a : A)
-    → (if not (is_length L) then refused 7 else if not (ltb first (modulus_of L) and ltb f (pdcps L)) then refused 10 else done fresh) ≡ done a
+    → (if not (is_length L) then refused 7 else (if not (ltb first (modulus_of L) and ltb f (pdcps L)) then refused 10 else done fresh)) ≡ done a
     → Opened L first fresh a
 opened L first f fresh a = by (is_length L) (ltb first (modulus_of L) and ltb f (pdcps L)) refl refl
   where
-    by : (s t : Bool) → is_length L ≡ s → (ltb first (modulus_of L) and ltb f (pdcps L)) ≡ t → (if not s then refused 7 else if not t then refused 10 else done fresh) ≡ done a → Opened L first fresh a
+    by : (s t : Bool) → is_length L ≡ s → (ltb first (modulus_of L) and ltb f (pdcps L)) ≡ t → (if not s then refused 7 else (if not t then refused 10 else done fresh)) ≡ done a → Opened L first fresh a
     by true true ok fits e = record { ok = ok; small = ltb-true first (modulus_of L) (and_true (ltb first (modulus_of L)) (ltb f (pdcps L)) fits).0; is = done_one fresh a e }
     by true false ok fits e = never_done 10 a e
     by false t ok fits e = never_done 7 a e

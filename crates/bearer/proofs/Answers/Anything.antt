@@ -1,6 +1,7 @@
 -- Whether there is anything to say, in every state: that it agrees with building the whole frame, and what it looks at (`AnythingAgrees` and
 -- `AnythingLooks` of specs/KeeperMeaning.antt).
 -- Assumes nothing.
+use Rattle.std.specs.Prelude.{if◌then◌else◌}
 use mathlib.Core.Path.{◌≡◌, refl, sym, ◌∙◌, ap, ap₂}
 use mathlib.Core.Bool.{Bool, true, false}
 use mathlib.Core.List.{List, [], ◌∷◌, ◌++◌}
@@ -11,7 +12,7 @@ use borrow.Author.Tests.{ltb-true, lt-ltb}
 use lib.Dec.{ltb}
 use lib.ListN.{length, take, drop, length-drop}
 use lib.Seq.{take-append_seam}
-use Rattle.basics.specs.Basics.{if◌then◌else◌, ◌or◌, some_in, done, refused}
+use Rattle.basics.specs.Basics.{◌or◌, some_in, done, refused}
 use Rattle.basics.proofs.Choices.{tested, contrary, same_test, otherwise, done_one, never_done}
 use Rattle.frame_layout.specs.Frames.{Range, Status, read_frame, status_octets, most_ranges}
 use Rattle.frame_layout.specs.Trips.{status_frame}

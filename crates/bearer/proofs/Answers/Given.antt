@@ -1,12 +1,13 @@
 -- How an answer of either machine is shown to be the one that its call's refusals give (the crate basics, Refusals.antt): what both opens ask, and
 -- calls that refuse by one test after another.
 -- Assumes nothing.
+use Rattle.std.specs.Prelude.{if◌then◌else◌}
 use mathlib.Core.Path.{◌≡◌, refl}
 use mathlib.Core.Bool.{Bool, true, false, not}
 use mathlib.Core.List.{List, ◌∷◌}
 use Prim.Native.Nat.{ℕ}
 use lib.Dec.{ltb}
-use Rattle.basics.specs.Basics.{if◌then◌else◌, ◌and◌, ◌or◌}
+use Rattle.basics.specs.Basics.{◌and◌, ◌or◌}
 use Rattle.basics.specs.Refusals.{Refusal, ◌when◌, Given}
 use Rattle.basics.proofs.Refusals.{Says, says_same, says_or, says_not, says_not_both, says_past, given_of}
 use Rattle.circle.specs.Lengths.{is_length, modulus_of, pdcps}
@@ -27,6 +28,6 @@ pub call_by : {S A P : Type 0} (t : Bool) (n : ℕ) (rs : List Refusal) (s : S) 
 call_by t n rs s x p f = given_of (λ (y : After _ _). y.answer) t n rs (refusing n s) x p refl f
 
 -- two tests, one after the other, with one answer are one test
-pub one_test : {X : Type 0} (s t : Bool) (x y : X) → (if s then x else if t then x else y) ≡ (if s or t then x else y)
+pub one_test : {X : Type 0} (s t : Bool) (x y : X) → (if s then x else (if t then x else y)) ≡ (if s or t then x else y)
 one_test true t x y = refl
 one_test false t x y = refl

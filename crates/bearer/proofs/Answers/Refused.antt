@@ -1,5 +1,6 @@
 -- A refused call changes nothing: of each machine, whatever its state (a refused status: Reported.antt).
 -- Assumes nothing.
+use Rattle.std.specs.Prelude.{if◌then◌else◌}
 use mathlib.Core.Path.{refl}
 use mathlib.Core.Bool.{Bool, true, false, not}
 use mathlib.Core.List.{List, [], ◌∷◌}
@@ -7,7 +8,7 @@ use mathlib.Core.Option.{Option, none, some}
 use Prim.Native.Nat.{ℕ, ◌+◌, ◌/◌}
 use lib.Dec.{eqb, leb, ltb}
 use lib.ListN.{length, take, drop}
-use Rattle.basics.specs.Basics.{if◌then◌else◌, ◌and◌, ◌or◌, alike}
+use Rattle.basics.specs.Basics.{◌and◌, ◌or◌, alike}
 use Rattle.basics.proofs.Choices.{contrary}
 use Rattle.circle.specs.Circle.{forward}
 use Rattle.circle.specs.Sides.{Side, same, ahead, behind, opposite, lies}

@@ -1,13 +1,14 @@
 -- What a status leaves, in every state: it is refused and nothing changes, or its frame stands at the front of the buffer and the state is the
 -- reported one.
 -- Assumes nothing.
+use Rattle.std.specs.Prelude.{if◌then◌else◌}
 use mathlib.Core.Path.{◌≡◌, refl, sym, ap}
 use mathlib.Core.Bool.{Bool, true, false}
 use mathlib.Core.List.{List, ◌++◌}
 use Prim.Native.Nat.{ℕ, ◌≤◌}
 use native.Mathlib.Omega.{arith}
 use lib.ListN.{length, drop, length-append}
-use Rattle.basics.specs.Basics.{if◌then◌else◌, ◌and◌, done, is_done}
+use Rattle.basics.specs.Basics.{done, is_done}
 use Rattle.basics.proofs.Choices.{contrary, done_one, never_done}
 use Rattle.frame_layout.specs.Frames.{Status, Written, Within, status_octets, write_status}
 use Rattle.frame_layout.specs.Trips.{Leaves, refuses as not_written, writes}
@@ -31,7 +32,7 @@ reports k d m final buffer = by k.closed (K.final_too_early k final) refl
     written c (writes room) = builds c room
 
     by : (c t : Bool) → k.closed ≡ c
-        → Reports k (K.status_now k d m final) final buffer (if c then K.unreported 9 k buffer else if t then K.unreported 22 k buffer else K.reported_as k final (write_status (K.status_now k d m final) buffer))
+        → Reports k (K.status_now k d m final) final buffer (if c then K.unreported 9 k buffer else (if t then K.unreported 22 k buffer else K.reported_as k final (write_status (K.status_now k d m final) buffer)))
     by true t e = refuses 9
     by false true e = refuses 22
     by false false e = written e (status_leaves (K.status_now k d m final) buffer)
@@ -58,7 +59,7 @@ pub status_written : (k : K.Keeper) (d m : ℕ) (final : Bool) (buffer : List �
 status_written k d m final buffer c = by k.closed (K.final_too_early k final) refl
   where
     by : (x t : Bool) → k.closed ≡ x
-        → (if x then K.unreported 9 k buffer else if t then K.unreported 22 k buffer else K.reported_as k final (write_status (K.status_now k d m final) buffer)).answer ≡ done c
+        → (if x then K.unreported 9 k buffer else (if t then K.unreported 22 k buffer else K.reported_as k final (write_status (K.status_now k d m final) buffer))).answer ≡ done c
         → (k.closed ≡ false) × ((write_status (K.status_now k d m final) buffer).answer ≡ done c)
     by true t e a = never_done 9 c a
     by false true e a = never_done 22 c a

@@ -1,5 +1,6 @@
 -- Calls that leave the secondary alone, and refused ones: both ends stay joined.
 -- Assumes nothing.
+use Rattle.std.specs.Prelude.{if◌then◌else◌}
 use mathlib.Core.Path.{◌≡◌, refl, sym, ◌∙◌, ap, subst}
 use mathlib.Core.Bool.{Bool, true, false}
 use mathlib.Core.List.{List, [], ◌∷◌, ◌++◌, append-nil}
@@ -7,7 +8,7 @@ use mathlib.Core.Logic.{⊎_elim}
 use Prim.Native.Nat.{ℕ, ◌≤◌, ◌<◌}
 use native.Mathlib.Omega.{arith}
 use lib.ListN.{length, take, length-append, get_or-append}
-use Rattle.basics.specs.Basics.{if◌then◌else◌, Outcome, done, refused, is_done}
+use Rattle.basics.specs.Basics.{Outcome, done, refused, is_done}
 use Rattle.basics.proofs.Choices.{contrary, order}
 use Rattle.circle.specs.Lengths.{is_length}
 use Rattle.bearer.specs.Keeper as K

@@ -1,5 +1,6 @@
 -- A number is confirmed to the secondary: it is refused and nothing changes, or the packet that bears it is confirmed.
 -- Assumes nothing.
+use Rattle.std.specs.Prelude.{if◌then◌else◌}
 use mathlib.Core.Path.{◌≡◌, refl, sym, ◌∙◌, ap, subst}
 use mathlib.Core.Bool.{Bool, true, false}
 use mathlib.Core.List.{List, [], ◌∷◌}
@@ -10,7 +11,7 @@ use borrow.Author.Tests.{eq-eqb, eqb-true}
 use lib.Dec.{eqb}
 use lib.ListN.{length, get_or, set}
 use lib.Seq.{map-set_same}
-use Rattle.basics.specs.Basics.{if◌then◌else◌, Outcome, done, refused, is_done}
+use Rattle.basics.specs.Basics.{Outcome, done, refused, is_done}
 use Rattle.basics.proofs.Choices.{tested, order}
 use Rattle.circle.specs.Lengths.{is_length, modulus_of}
 use Rattle.bearer.specs.Keeper as K

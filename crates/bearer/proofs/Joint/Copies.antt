@@ -1,6 +1,7 @@
 -- What copies are answered while both ends are joined and the secondary is open: an open packet is taken, with the count that the rule declares
 -- lost; any other is opposite or late if it lies before base, and has a record if not.
 -- Assumes nothing.
+use Rattle.std.specs.Prelude.{if◌then◌else◌}
 use mathlib.Core.Path.{◌≡◌, sym, ◌∙◌, ap, subst}
 use mathlib.Core.Bool.{Bool, true, false}
 use mathlib.Core.Logic.{⊎_elim}
@@ -9,7 +10,7 @@ use native.Mathlib.Omega.{arith}
 use borrow.Author.Tests.{lt-leb, lt-ltb, le-ltb}
 use lib.Dec.{ltb, eqb}
 use lib.ListN.{length, get_or}
-use Rattle.basics.specs.Basics.{if◌then◌else◌, done, refused}
+use Rattle.basics.specs.Basics.{done, refused}
 use Rattle.basics.proofs.Choices.{tested, otherwise, chosen, order}
 use Rattle.circle.specs.Lengths.{is_length, half}
 use Rattle.bearer.specs.Bearer.{most_runs, most_records, After, refusing, answering}

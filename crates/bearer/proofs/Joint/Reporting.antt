@@ -8,7 +8,6 @@ use Prim.Native.Nat.{ℕ, zero, suc, ◌-◌, ◌^◌, ◌≤◌, ◌<◌}
 use native.Mathlib.Omega.{arith}
 use lib.ListN.{length, get_or, take, drop, length-take, length-append}
 use lib.Seq.{take-append-le, drop-append-le, take-append_seam}
-use Rattle.basics.specs.Basics.{all}
 use Rattle.basics.proofs.Lists.{map_drop}
 use Rattle.circle.specs.Lengths.{is_length, pdcps}
 use Rattle.frame_layout.specs.Frames.{Status, Reading, read_frame, status_octets, most_ranges}

@@ -2,6 +2,7 @@
 -- first unreported loss on, and every one with a record waits at the master, which holds at most 512, and from any that waits on at most half
 -- the PDCP numbers were sent.
 -- Assumes nothing.
+use Rattle.std.specs.Prelude.{if◌then◌else◌}
 use mathlib.Core.Path.{◌≡◌, sym, ◌∙◌, ap}
 use mathlib.Core.Bool.{Bool, true, false}
 use mathlib.Core.List.{List, [], ◌∷◌}
@@ -10,7 +11,6 @@ use Prim.Native.Nat.{ℕ, suc, ◌+◌, ◌-◌, ◌≤◌, ◌<◌}
 use native.Mathlib.Omega.{arith}
 use lib.ListN.{length, take, drop}
 use lib.Seq.{take-take}
-use Rattle.basics.specs.Basics.{if◌then◌else◌}
 use Rattle.basics.proofs.Choices.{tested, contrary}
 use Rattle.circle.specs.Lengths.{is_length, half}
 use Rattle.bearer.specs.Bearer.{most_entries}

@@ -34,6 +34,10 @@ not_in i l n = refuted (is_in i l) n
 pub in_head : (i : ℕ) (xs : List ℕ) → In i (i ∷ xs)
 in_head i xs = rw (eq-eqb i i refl)
 
+-- what is the first is there
+pub in_first : (j i : ℕ) (xs : List ℕ) → j ≡ i → In j (i ∷ xs)
+in_first j i xs q = rw (eq-eqb j i q)
+
 pub in_tail : (i x : ℕ) (xs : List ℕ) → In i xs → In i (x ∷ xs)
 in_tail i x xs h = or_right (eqb i x) (is_in i xs) h
 

@@ -1,6 +1,7 @@
 -- Lists whose elements are mapped: what the machines' definitions on lists make of them, where each element's test or value is
 -- the same before and after. And what holds of every element of a list, of a part of it, and of the gaps that records leave.
 -- Assumes nothing.
+use Rattle.std.specs.Prelude.{if◌then◌else◌}
 use mathlib.Core.Path.{◌≡◌, refl, ap, ap₂}
 use mathlib.Core.Bool.{Bool, true, false}
 use mathlib.Core.List.{List, [], ◌∷◌, ◌++◌, map}
@@ -10,7 +11,7 @@ use native.Mathlib.Nat.{le_of_suc-le-suc}
 use borrow.Author.Tests.{ltb-true, leb-false}
 use lib.Dec.{ltb, leb}
 use lib.ListN.{length, get_or, take, drop}
-use Rattle.basics.specs.Basics.{if◌then◌else◌, ◌and◌, ◌or◌, all}
+use Rattle.basics.specs.Basics.{◌and◌, ◌or◌, all}
 use Rattle.basics.proofs.Choices.{and_true, choice}
 use Rattle.bearer.specs.Losses.{Gap, gap, gaps, outside, front_of}
 use Rattle.bearer.specs.Keeper.{run_with}

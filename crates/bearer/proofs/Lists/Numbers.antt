@@ -1,6 +1,7 @@
 -- Packets' numbers on a circle of M, how they lie to each other, and the tests of specs/Losses.antt on them: of packets within half the
 -- circle of each other each is a plain comparison of packet indexes. The laws are stated once over M and the number of packet 0.
 -- Assumes nothing.
+use Rattle.std.specs.Prelude.{if◌then◌else◌}
 use mathlib.Core.Path.{◌≡◌, refl, sym, ◌∙◌, ap}
 use mathlib.Core.Bool.{Bool, true, false, not}
 use Prim.Native.Nat.{ℕ, ◌+◌, ◌-◌, ◌/◌, ◌%◌, ◌≤◌, ◌<◌}
@@ -8,11 +9,11 @@ use native.Mathlib.Omega.{arith}
 use native.Mathlib.Nat.{add_assoc, add-zero, mod-add-mod, mod-eq_of_lt}
 use borrow.Author.Tests.{ltb-true, ltb-false, leb-true, leb-false, eqb-true, eqb-false, eq-eqb, ne_eqb, lt-ltb, le-ltb, le-leb, lt-leb}
 use lib.Dec.{ltb, leb, eqb}
-use Rattle.basics.specs.Basics.{if◌then◌else◌}
 use Rattle.basics.proofs.Choices.{contrary, eqb_alike}
 use Rattle.circle.specs.Circle as C
 use Rattle.circle.specs.Circle.{forward}
-use Rattle.circle.specs.Sides.{Side, same, ahead, behind, opposite, lies, Told, side_told, told_one}
+use Rattle.circle.specs.Sides.{Side, same, ahead, behind, opposite, lies, Told}
+use Rattle.circle.proofs.Sides.{side_told, told_one}
 use Rattle.circle.specs.Lengths.{modulus_of, half, is_long}
 use Rattle.circle.proofs.Forms.{modulus_bounds, halves}
 use Rattle.bearer.specs.Losses.{is_before, before, is_ahead, ahead_of, from_on, far_behind}
@@ -70,7 +71,7 @@ never_ahead M a n = by (lies M a n)
 
 -- how packet j lies to packet i, from h before it up to, and without, h past it
 abbrev pub side_i : ℕ → ℕ → ℕ → Side
-side_i h i j = if ltb j i then (if eqb (j + h) i then opposite else behind) else if eqb i j then same else ahead
+side_i h i j = if ltb j i then (if eqb (j + h) i then opposite else behind) else (if eqb i j then same else ahead)
 
 -- ---- the number of packet i, where packet 0 has the number first
 
@@ -138,7 +139,7 @@ module _ (M first : ℕ) (pos : 0 < M) where
         earlier h true e = omega (arith, to_earlier i j h (omega arith), eqb-true (j + M / 2) i e)
         earlier h false e = let way = to_earlier i j h (omega arith) in let apart = eqb-false (j + M / 2) i e in omega arith
 
-        by : (t : Bool) → ltb j i ≡ t → Told (M / 2) (forward M (on M first i) (on M first j)) (if t then (if eqb (j + M / 2) i then opposite else behind) else if eqb i j then same else ahead)
+        by : (t : Bool) → ltb j i ≡ t → Told (M / 2) (forward M (on M first i) (on M first j)) (if t then (if eqb (j + M / 2) i then opposite else behind) else (if eqb i j then same else ahead))
         by true e = earlier (ltb-true j i e) (eqb (j + M / 2) i) refl
         by false e = later (ltb-false j i e) (eqb i j) refl
 
@@ -146,7 +147,7 @@ module _ (M first : ℕ) (pos : 0 < M) where
     pub before_is : before M (on M first i) (on M first j) ≡ ltb j i
     before_is = ap is_before lies_is ∙ by (ltb j i) (eqb (j + M / 2) i) (eqb i j)
       where
-        by : (t o s : Bool) → is_before (if t then (if o then opposite else behind) else if s then same else ahead) ≡ t
+        by : (t o s : Bool) → is_before (if t then (if o then opposite else behind) else (if s then same else ahead)) ≡ t
         by true true s = refl
         by true false s = refl
         by false o true = refl
@@ -156,7 +157,7 @@ module _ (M first : ℕ) (pos : 0 < M) where
     pub ahead_is : ahead_of M (on M first i) (on M first j) ≡ ltb i j
     ahead_is = ap is_ahead lies_is ∙ by (ltb j i) (eqb i j) refl refl (eqb (j + M / 2) i)
       where
-        by : (t s : Bool) → ltb j i ≡ t → eqb i j ≡ s → (o : Bool) → is_ahead (if t then (if o then opposite else behind) else if s then same else ahead) ≡ ltb i j
+        by : (t s : Bool) → ltb j i ≡ t → eqb i j ≡ s → (o : Bool) → is_ahead (if t then (if o then opposite else behind) else (if s then same else ahead)) ≡ ltb i j
         by true s e f true = sym (le-ltb i j (omega (arith, ltb-true j i e)))
         by true s e f false = sym (le-ltb i j (omega (arith, ltb-true j i e)))
         by false true e f o = sym (le-ltb i j (omega (arith, eqb-true i j f)))

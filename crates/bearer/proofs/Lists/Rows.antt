@@ -13,7 +13,7 @@ use Rattle.basics.proofs.Choices.{tested, contrary}
 use Rattle.bearer.specs.Losses.{Gap}
 use Rattle.bearer.specs.Packets.{In, Rising}
 use Rattle.bearer.specs.Account.{packets_from, packets_of, Maximal}
-use Rattle.bearer.proofs.Lists.Elements.{in_head, in_tail, in_cons, in_left, in_append, rising_cons, in_none}
+use Rattle.bearer.proofs.Lists.Elements.{in_tail, in_cons, in_left, in_append, rising_cons, in_none, in_first}
 
 -- ---- packets in a row
 
@@ -26,7 +26,7 @@ pub packets_in : (i c j : ℕ) → i ≤ j → j < i + c → In j (packets_from 
 packets_in i zero j l h = absurd (omega arith)
 packets_in i (suc c) j l h =
     ⊎_elim (λ e. in_tail j i (packets_from (suc i) c) (packets_in (suc i) c j (ltb-true i j e) (omega arith)))
-    (λ e. let q : j ≡ i = omega (arith, ltb-false i j e) in rw q (in_head i (packets_from (suc i) c)))
+    (λ e. let q : j ≡ i = omega (arith, ltb-false i j e) in in_first j i (packets_from (suc i) c) q)
     (tested (ltb i j))
 
 pub rising_packets : (i c : ℕ) → Rising (packets_from i c)

@@ -11,7 +11,6 @@ use Rattle.basics.specs.Basics.{all}
 use Rattle.circle.specs.Lengths.{is_long, modulus_of}
 use Rattle.frame_layout.specs.Frames.{in_form}
 use Rattle.bearer.specs.Losses.{Gap}
-use Rattle.bearer.specs.Keeper as K
 use Rattle.bearer.specs.Packets.{number_of, numbers_from, in_range, in_ranges, Each}
 use Rattle.bearer.specs.Account.{run_at, packets_from, packets_of}
 use Rattle.bearer.proofs.Lists.Numbers.{positive, onward_is, to_later}

@@ -2,6 +2,7 @@
 -- waiting packet which the ranges leave out: it accepts, and frees exactly the waiting packets through the highest's that the ranges
 -- leave out.
 -- Assumes nothing.
+use Rattle.std.specs.Prelude.{if◌then◌else◌}
 use mathlib.Core.Path.{◌≡◌, refl, sym, ◌∙◌, ap}
 use mathlib.Core.Bool.{Bool, true, false, not}
 use mathlib.Core.List.{List, [], ◌∷◌, map}
@@ -11,7 +12,7 @@ use native.Mathlib.Omega.{arith}
 use borrow.Author.Tests.{eq-eqb, ne_eqb, lt-leb}
 use lib.Dec.{eqb, leb}
 use lib.ListN.{length}
-use Rattle.basics.specs.Basics.{if◌then◌else◌, alike, is_done}
+use Rattle.basics.specs.Basics.{alike, is_done}
 use Rattle.basics.proofs.Choices.{contrary, and_true, otherwise}
 use Rattle.circle.specs.Lengths.{is_length, is_long, pdcps}
 use Rattle.frame_layout.specs.Frames.{Status, status_of, read_frame}

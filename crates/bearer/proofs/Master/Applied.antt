@@ -1,6 +1,7 @@
 -- A ledger is sound when it is opened, and what an accepted status leaves is sound again, whoever made the frame: waiting entries
 -- turned lost, and then those freed that wait through the packet of the frame's highest.
 -- Assumes nothing.
+use Rattle.std.specs.Prelude.{if◌then◌else◌}
 use mathlib.Core.Path.{◌≡◌, refl, sym, ◌∙◌, ap}
 use mathlib.Core.Bool.{Bool, true, false}
 use mathlib.Core.List.{List, [], ◌∷◌}
@@ -11,7 +12,7 @@ use native.Mathlib.Omega.{arith}
 use native.Mathlib.Nat.{mod-lt}
 use lib.Dec.{leb}
 use lib.ListN.{length}
-use Rattle.basics.specs.Basics.{if◌then◌else◌, ◌and◌}
+use Rattle.basics.specs.Basics.{◌and◌}
 use Rattle.basics.proofs.Choices.{contrary}
 use Rattle.circle.specs.Lengths.{is_length, modulus_of}
 use Rattle.frame_layout.specs.Frames.{Range, Status}

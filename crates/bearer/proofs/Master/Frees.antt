@@ -1,6 +1,7 @@
 -- What the master's two passes leave, by packets: the named waiting packets are lost, then every waiting packet through the highest's is
 -- freed; nothing else changes.
 -- Assumes nothing.
+use Rattle.std.specs.Prelude.{if◌then◌else◌}
 use mathlib.Core.Path.{◌≡◌, refl, sym, ◌∙◌}
 use mathlib.Core.Bool.{Bool, true, false}
 use mathlib.Core.List.{List, [], ◌∷◌}
@@ -9,14 +10,14 @@ use Prim.Native.Nat.{ℕ, ◌≤◌, ◌<◌}
 use native.Mathlib.Omega.{arith}
 use borrow.Author.Tests.{eq-eqb, eqb-true, eqb-false, le-leb, lt-leb, leb-true, leb-false}
 use lib.Dec.{eqb, leb}
-use Rattle.basics.specs.Basics.{if◌then◌else◌, ◌and◌}
+use Rattle.basics.specs.Basics.{◌and◌}
 use Rattle.basics.proofs.Choices.{tested, contrary, or_left, or_right}
 use Rattle.bearer.specs.Ledger.{Entry, waits, as_lost, waits_for, free_through}
 use Rattle.bearer.specs.Rule.{is_in}
 use Rattle.bearer.specs.Packets.{packets, Rising, In, Each}
 use Rattle.bearer.specs.World.{without}
 use Rattle.bearer.specs.LedgerMeaning.{waiting_in}
-use Rattle.bearer.proofs.Lists.Elements.{in_head, in_tail, in_cons, rising_tail, rising_head, rising_cons, in_none, not_in}
+use Rattle.bearer.proofs.Lists.Elements.{in_head, in_tail, in_cons, rising_tail, rising_head, rising_cons, in_none, not_in, in_first}
 use Rattle.bearer.proofs.Master.Marks.{is_named, marked, waiting_of, waiting_cases, waiting_held}
 
 -- an entry waits, and its packet isn't past g
@@ -216,7 +217,7 @@ in_without x (y ∷ a) b p = go (tested (is_in y b)) (λ q. let r = in_without x
   where
     go : (is_in y b ≡ true) ⊎ (is_in y b ≡ false) → (In x (without a b) → In x (y ∷ a) × (is_in x b ≡ false)) → In x (y ∷ a) × (is_in x b ≡ false)
     go (inl t) rest = rest (rw t at p)
-    go (inr t) rest = ⊎_elim (λ q. (rw q (in_head y a), rw q t)) rest (in_cons x y (without a b) (rw t at p))
+    go (inr t) rest = ⊎_elim (λ q. (in_first x y a q, rw q t)) rest (in_cons x y (without a b) (rw t at p))
 
 pub without_in : (x : ℕ) (a b : List ℕ) → In x a → is_in x b ≡ false → In x (without a b)
 without_in x [] b p n = p

@@ -1,6 +1,7 @@
 -- Every call on a master that calls reach is refused with the first number of document 01's table whose sentence holds, and accepted if none
 -- does (specs/Refusals.antt).
 -- Assumes nothing.
+use Rattle.std.specs.Prelude.{if◌then◌else◌}
 use mathlib.Core.Path.{◌≡◌, refl, sym, ◌∙◌, ap}
 use mathlib.Core.Bool.{Bool, true, false, not}
 use mathlib.Core.List.{List, [], ◌∷◌, ◌++◌}
@@ -10,7 +11,7 @@ use native.Mathlib.Omega.{arith}
 use borrow.Author.Tests.{ltb-true, not-false}
 use lib.Dec.{ltb, leb, eqb}
 use lib.ListN.{length, take, drop, length-map}
-use Rattle.basics.specs.Basics.{if◌then◌else◌, ◌or◌, alike, refused, is_done}
+use Rattle.basics.specs.Basics.{◌or◌, alike, refused, is_done}
 use Rattle.basics.specs.Refusals.{Refusal, ◌when◌, Given}
 use Rattle.basics.proofs.Choices.{contrary, and_true, never_done}
 use Rattle.basics.proofs.Refusals.{Says, says_below, says_same, says_at_most, says_holds, says_and, says_not, says_as, says_past, says_more, says_not_both, given_of, given_append, refused_alike}

@@ -1,6 +1,7 @@
 -- Labels change nothing: the master's machine on entries with one kind of label, and on the same entries relabelled, gives the same answers
 -- and the same ledger relabelled. So what is proved with packets written on the entries holds of the engine's entries, which bear none.
 -- Assumes nothing.
+use Rattle.std.specs.Prelude.{if◌then◌else◌}
 use mathlib.Core.Path.{◌≡◌, refl, sym, ◌∙◌, ap, ap₂}
 use mathlib.Core.Bool.{Bool, true, false, not}
 use mathlib.Core.List.{List, [], ◌∷◌, ◌++◌, map}
@@ -8,7 +9,7 @@ use mathlib.Core.Option.{Option, none, some}
 use Prim.Native.Nat.{ℕ, suc, ◌+◌, ◌-◌}
 use lib.Dec.{ltb, leb, eqb}
 use lib.ListN.{length, take, drop, length-map}
-use Rattle.basics.specs.Basics.{if◌then◌else◌, ◌and◌, ◌or◌, alike}
+use Rattle.basics.specs.Basics.{◌and◌, ◌or◌, alike}
 use Rattle.basics.proofs.Choices.{choice}
 use Rattle.basics.proofs.Lists.{map_take, map_drop}
 use Rattle.circle.specs.Lengths.{is_long, pdcps}

@@ -1,6 +1,7 @@
 -- Every ledger that calls reach from open means what document 01 says, and so does every status that such a ledger accepts
 -- (specs/LedgerMeaning.antt): each accepted call keeps a sound ledger (Sound.antt), and a sound ledger means that.
 -- Assumes nothing.
+use Rattle.std.specs.Prelude.{if◌then◌else◌}
 use mathlib.Core.Path.{◌≡◌, refl, sym, ◌∙◌, ap}
 use mathlib.Core.Bool.{Bool, true, false, not}
 use mathlib.Core.List.{List, [], ◌∷◌, ◌++◌, map}
@@ -10,7 +11,7 @@ use native.Mathlib.Omega.{arith}
 use borrow.Author.Tests.{not-false}
 use lib.Dec.{leb, ltb}
 use lib.ListN.{length, take, drop, length-append, take-append-drop}
-use Rattle.basics.specs.Basics.{if◌then◌else◌, ◌or◌, done, is_done}
+use Rattle.basics.specs.Basics.{◌or◌, done, is_done}
 use Rattle.basics.proofs.Choices.{tested, contrary, done_one, never_done, or_false}
 use Rattle.circle.specs.Circle.{forward}
 use Rattle.circle.specs.Lengths.{is_length, modulus_of, pdcps, pdcp_before}

@@ -2,6 +2,7 @@
 -- these into lost ones. A lost entry is never taken for a waiting one of its number: the pass looks at waiting entries alone, and these
 -- lie less than a turn apart.
 -- Assumes nothing.
+use Rattle.std.specs.Prelude.{if◌then◌else◌}
 use mathlib.Core.Path.{◌≡◌, refl, sym, ◌∙◌, ap}
 use mathlib.Core.Bool.{Bool, true, false}
 use mathlib.Core.List.{List, [], ◌∷◌, map}
@@ -14,7 +15,7 @@ use native.Mathlib.Numerals.{add-one}
 use borrow.Author.Tests.{eq-eqb, ne_eqb, eqb-true, eqb-false}
 use lib.Dec.{eqb}
 use lib.ListN.{length}
-use Rattle.basics.specs.Basics.{if◌then◌else◌, ◌and◌}
+use Rattle.basics.specs.Basics.{◌and◌}
 use Rattle.basics.proofs.Choices.{tested, contrary, and_no}
 use Rattle.circle.specs.Lengths.{modulus_of}
 use Rattle.frame_layout.specs.Frames.{Range}

@@ -1,6 +1,7 @@
 -- Where the oldest waiting entry stands, and that the ledger goes on knowing it: a send puts an entry behind all others, a status turns and frees
 -- waiting ones alone, and a take lets one entry go.
 -- Assumes nothing.
+use Rattle.std.specs.Prelude.{if◌then◌else◌}
 use mathlib.Core.Path.{◌≡◌, refl, ap}
 use mathlib.Core.Bool.{Bool, true, false}
 use mathlib.Core.List.{List, [], ◌∷◌, ◌++◌}
@@ -9,7 +10,6 @@ use Prim.Native.Nat.{ℕ, zero, suc, ◌+◌, ◌-◌, ◌≤◌, ◌<◌}
 use native.Mathlib.Omega.{arith}
 use borrow.Author.Tests.{lt-ltb, le-ltb}
 use lib.ListN.{length, drop}
-use Rattle.basics.specs.Basics.{if◌then◌else◌}
 use Rattle.basics.proofs.Choices.{tested, order}
 use Rattle.bearer.specs.Ledger.{Entry, waits, waiting_at, place_without}
 use Rattle.bearer.specs.LedgerMeaning.{waiting_in, in_front, TurnedLost, turned_end, turns, as_it_was}

@@ -1,6 +1,7 @@
 -- What holds of the sizes in every ledger that calls reach: each entry bears its packet's, which is within its limits; so the sizes of those that
 -- wait are the packets', and added up they stay small. That sum is the one which is kept: each call raises or lowers it by what it changes.
 -- Assumes nothing.
+use Rattle.std.specs.Prelude.{if◌then◌else◌}
 use mathlib.Core.Path.{◌≡◌, refl, sym, ◌∙◌, ap, ap₂}
 use mathlib.Core.Bool.{Bool, true, false}
 use mathlib.Core.List.{List, [], ◌∷◌, ◌++◌}
@@ -8,7 +9,6 @@ use Prim.Native.Nat.{ℕ, ◌+◌, ◌*◌, ◌-◌, ◌≤◌, ◌<◌}
 use native.Mathlib.Omega.{arith}
 use lib.ListN.{length, get_or, length-append, get_or-append}
 use lib.Seq.{get_or-append_seam}
-use Rattle.basics.specs.Basics.{if◌then◌else◌}
 use Rattle.bearer.specs.Bearer.{most_entries, most_size}
 use Rattle.bearer.specs.Ledger.{Entry, Ledger, new_entry, raised, waits, waiting_sizes, lowered, room}
 use Rattle.bearer.specs.Packets.{packets, Each}

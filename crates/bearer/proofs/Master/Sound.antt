@@ -1,6 +1,7 @@
 -- What holds of every ledger that calls reach from open, by packets: entries stand in sending order under their own numbers, the ledger knows
 -- where the oldest waiting one stands, and the PDCP numbers of those that wait are in order.
 -- Assumes nothing.
+use Rattle.std.specs.Prelude.{if◌then◌else◌}
 use mathlib.Core.Path.{◌≡◌, refl, sym, ◌∙◌, ap}
 use mathlib.Core.Bool.{Bool, true, false, not}
 use mathlib.Core.List.{List, [], ◌∷◌, ◌++◌, map-append}
@@ -12,7 +13,7 @@ use borrow.Author.Tests.{ltb-true, leb-true, leb-false, eq-eqb}
 use lib.Dec.{eqb, leb, ltb}
 use lib.ListN.{length, drop, length-append, get_or-append}
 use lib.Seq.{get_or-append_seam}
-use Rattle.basics.specs.Basics.{if◌then◌else◌, is_done}
+use Rattle.basics.specs.Basics.{is_done}
 use Rattle.basics.proofs.Choices.{tested, contrary, and_true}
 use Rattle.circle.specs.Lengths.{is_length, modulus_of, pdcps}
 use Rattle.bearer.specs.Bearer.{most_entries, most_size}

@@ -1,12 +1,12 @@
 -- The sizes of waiting entries, added up, whatever the entries' labels.
 -- Assumes nothing.
+use Rattle.std.specs.Prelude.{if◌then◌else◌}
 use mathlib.Core.Path.{◌≡◌, sym}
 use mathlib.Core.Bool.{Bool, true, false}
 use mathlib.Core.List.{List, [], ◌∷◌, ◌++◌}
-use Prim.Native.Nat.{ℕ, ◌+◌}
+use Prim.Native.Nat.{◌+◌}
 use native.Mathlib.Nat.{zero-add}
 use native.Mathlib.Omega.{arith}
-use Rattle.basics.specs.Basics.{if◌then◌else◌}
 use Rattle.bearer.specs.Ledger.{Entry, waits, waiting_sizes}
 
 module _ {A : Type 0} where

@@ -1,5 +1,6 @@
 -- What a take does to the master's ledger, by packets: nothing, or one entry leaves, a lost one while the end is open.
 -- Assumes nothing.
+use Rattle.std.specs.Prelude.{if◌then◌else◌}
 use mathlib.Core.Path.{◌≡◌, refl, sym, ◌∙◌, ap}
 use mathlib.Core.Bool.{Bool, true, false, not}
 use mathlib.Core.List.{List, [], ◌∷◌, ◌++◌}
@@ -8,7 +9,7 @@ use Prim.Native.Nat.{ℕ, ◌≤◌}
 use native.Mathlib.Omega.{arith}
 use borrow.Author.Tests.{not-true}
 use lib.ListN.{length, take, drop, take-append-drop}
-use Rattle.basics.specs.Basics.{if◌then◌else◌, ◌or◌}
+use Rattle.basics.specs.Basics.{◌or◌}
 use Rattle.basics.proofs.Choices.{tested, contrary, or_true}
 use Rattle.bearer.specs.Ledger.{Entry, Ledger, waits, waiting_at, holding, place_without, take_at, take_from, take_oldest}
 use Rattle.bearer.specs.Packets.{packets, In}

@@ -1,6 +1,7 @@
 -- What the master's pass over any ranges does, hostile ones included: where it finds every number, it turns waiting entries of exactly
 -- the ranges' numbers lost, in sending order, counts them, and leaves the rest. What held of the entries by packets holds after it.
 -- Assumes nothing.
+use Rattle.std.specs.Prelude.{if◌then◌else◌}
 use mathlib.Core.Path.{◌≡◌, refl, sym, ◌∙◌, ap}
 use mathlib.Core.Bool.{Bool, true, false}
 use mathlib.Core.List.{List, [], ◌∷◌}
@@ -11,7 +12,6 @@ use native.Mathlib.Omega.{arith}
 use borrow.Author.Tests.{eqb-true, eqb-false}
 use lib.Dec.{eqb}
 use lib.ListN.{length}
-use Rattle.basics.specs.Basics.{if◌then◌else◌}
 use Rattle.basics.proofs.Choices.{tested, and_true}
 use Rattle.circle.specs.Circle.{forward, forward_self, one_nearer}
 use Rattle.circle.specs.Lengths.{modulus_of}

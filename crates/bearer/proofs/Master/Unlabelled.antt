@@ -1,18 +1,18 @@
 -- Ledgers without labels, as the engine holds them: after any calls each is one that accepted calls reach, without its labels (Labels.antt), and so
 -- its sum is that over its entries.
 -- Assumes nothing.
+use Rattle.std.specs.Prelude.{if◌then◌else◌}
 use mathlib.Core.Path.{◌≡◌, refl, sym, ◌∙◌, ap}
 use mathlib.Core.Bool.{Bool, true, false, not}
-use mathlib.Core.List.{List}
 use Prim.Native.Nat.{ℕ, ◌-◌}
 use lib.Dec.{ltb}
 use lib.ListN.{length}
-use Rattle.basics.specs.Basics.{if◌then◌else◌, ◌and◌, Outcome, done, refused, is_done}
+use Rattle.basics.specs.Basics.{◌and◌, Outcome, done, refused, is_done}
 use Rattle.basics.proofs.Choices.{never_done}
 use Rattle.circle.specs.Lengths.{is_length, modulus_of, pdcps}
 use Rattle.bearer.specs.Bearer.{After, Keeps}
 use Rattle.bearer.specs.Ledger.{Ledger, fresh_ledger, open_ledger, send, accept, take_oldest, waiting_sizes}
-use Rattle.bearer.specs.LedgerMeaning.{Books, begun, sending, accepting, taking, LedgerReached, opened as opens, sends, accepts, takes, waiting_in, sizes_of, CallsReach, is_opened, after_send, after_accept, after_take, Unlabelled, CallsMean, SumsKept, RoomWithoutEntries}
+use Rattle.bearer.specs.LedgerMeaning.{Books, begun, sending, accepting, taking, LedgerReached, opened as opens, sends, accepts, takes, is_opened, after_send, after_accept, after_take, Unlabelled, CallsMean, SumsKept, RoomWithoutEntries}
 use Rattle.bearer.proofs.Answers.Accepted.{opened}
 use Rattle.bearer.proofs.Answers.Refused.{send_keeps, accept_keeps, take_keeps}
 use Rattle.bearer.proofs.Master.Labels.{relabelled, outcome_as, send_as, accept_as, take_as, waiting_sizes_as}
@@ -30,8 +30,8 @@ forgotten i = tt
 open_as : (L first f : ℕ) (l : Ledger Unit) → open_ledger L first f ≡ done l → open_ledger {A = ℕ} L first f ≡ done (fresh_ledger L first f)
 open_as L first f l = by (not (is_length L)) (not (ltb first (modulus_of L) and ltb f (pdcps L)))
   where
-    by : (s t : Bool) → (if s then refused 7 else if t then refused 10 else done (fresh_ledger L first f)) ≡ done l
-        → (if s then refused 7 else if t then refused 10 else done (fresh_ledger {A = ℕ} L first f)) ≡ done (fresh_ledger L first f)
+    by : (s t : Bool) → (if s then refused 7 else (if t then refused 10 else done (fresh_ledger L first f))) ≡ done l
+        → (if s then refused 7 else (if t then refused 10 else done (fresh_ledger {A = ℕ} L first f))) ≡ done (fresh_ledger L first f)
     by true t e = never_done 7 l e
     by false true e = never_done 10 l e
     by false false e = refl

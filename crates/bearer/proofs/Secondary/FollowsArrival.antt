@@ -20,7 +20,7 @@ use Rattle.bearer.specs.Rule.{Fates, is_in, is_open, declare, receive, arrival}
 use Rattle.bearer.specs.Packets.{In, Rising}
 use Rattle.bearer.specs.Account.{Held, packets_of, runs_in, indexes}
 use Rattle.bearer.proofs.Lists.Mapped.{each_so}
-use Rattle.bearer.proofs.Lists.Elements.{in_head, in_tail, in_cons, in_left, in_right, in_one, in_last, in_drop, rising_head, rising_append, rising_drop, from_front, behind_front, each_inserted, in_inserted, inserted_in, rising_inserted}
+use Rattle.bearer.proofs.Lists.Elements.{in_head, in_tail, in_cons, in_left, in_right, in_one, in_last, in_drop, rising_head, rising_append, rising_drop, from_front, behind_front, each_inserted, in_inserted, inserted_in, rising_inserted, in_first}
 use Rattle.bearer.proofs.Answers.Accepted.{not_refused}
 use Rattle.bearer.proofs.Secondary.Index.{Indexed, froms, first_back, floor_i, place_i, past_base, runs_after_i, raised_base_i, given_up_i, gap_at, new_held, arrived_base_i, arrived_i, has_i, arrive_i}
 use Rattle.bearer.proofs.Secondary.Open.{open_is, open_unreceived}
@@ -63,7 +63,7 @@ module _ {h : ℕ} {a : Indexed} {r : Fates} {told : ℕ} (F : Follows h a r tol
       (advances (a.base + 1) (drop (place_i a (a.base + d)) (indexes a.records))
       (rising_drop (place_i a (a.base + d)) (indexes a.records) F.records.rising)
       (omega arith)
-      (λ j g k. let q : j ≡ a.base + d = omega arith in rw q (in_head (a.base + d) r.received))
+      (λ j g k. let q : j ≡ a.base + d = omega arith in in_first j (a.base + d) r.received q)
       (λ j t. in_tail j (a.base + d) r.received (record_received F j (in_drop j (place_i a (a.base + d)) (indexes a.records) t)))
       (λ j g t. ⊎_elim (λ q. absurd (omega arith)) (λ u. behind_front (suc (a.base + d)) (indexes a.records) F.records.rising j (omega arith) (F.records.from_base_on j (omega arith) u)) (in_cons j (a.base + d) r.received t))
       (λ f t. omega (arith, near_floor f t))
@@ -89,7 +89,7 @@ module _ {h : ℕ} {a : Indexed} {r : Fates} {told : ℕ} (F : Follows h a r tol
       (λ j t. omega (arith, record_near F j (above_in F j t))) (λ j t. omega (arith, in_one j (a.base + d) t)))
       (omega arith)
       (λ j g k. absurd (omega arith))
-      (λ j t. ⊎_elim (λ u. in_tail j (a.base + d) r.received (record_received F j (above_in F j u))) (λ q. rw q (in_head (a.base + d) r.received)) (in_last j (above a) (a.base + d) t))
+      (λ j t. ⊎_elim (λ u. in_tail j (a.base + d) r.received (record_received F j (above_in F j u))) (λ q. in_first j (a.base + d) r.received q) (in_last j (above a) (a.base + d) t))
       (λ j g t. ⊎_elim (λ q. rw q (in_right (a.base + d) (above a) ((a.base + d) ∷ []) (in_head (a.base + d) [])))
       (λ u. in_left j (above a) ((a.base + d) ∷ []) (in_above F j (omega arith) (F.records.from_base_on j (omega arith) u)))
       (in_cons j (a.base + d) r.received t))

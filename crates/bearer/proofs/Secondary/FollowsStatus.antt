@@ -1,7 +1,7 @@
 -- Confirm and status keep what a state means. A status reports the runs that it carries, and lets go of records that are all
 -- confirmed and before the first run left out; the next record is unconfirmed, or lies past that run.
 -- Assumes nothing.
-use mathlib.Core.Path.{◌≡◌, refl, sym, ◌∙◌, ap}
+use mathlib.Core.Path.{◌≡◌, refl, sym, ◌∙◌, ap, subst}
 use mathlib.Core.Bool.{Bool, true, false}
 use mathlib.Core.List.{List, [], ◌∷◌, ◌++◌}
 use mathlib.Core.Logic.{◌⊎◌, inl, inr, ⊎_elim}
@@ -147,7 +147,7 @@ module _ {h : ℕ} {a : Indexed} {r : Fates} {told : ℕ} (F : Follows h a r tol
       kept_record j t = in_drop j k (indexes a.records) (rw indexes_are at t)
 
       kept_mark : (f : ℕ) → (f ≡ a.base) ⊎ (In f (froms (drop most_ranges a.runs)) ⊎ In f (indexes (drop k a.records))) → In f (marks a)
-      kept_mark f (inl q) = rw q (mark_base a)
+      kept_mark f (inl q) = subst (λ (x : ℕ). In x (marks a)) (sym q) (mark_base a)
       kept_mark f (inr (inl t)) = mark_run a f (in_drop f most_ranges (froms a.runs) (rw (map_drop (λ (g : Gap). g.from) most_ranges a.runs) t))
       kept_mark f (inr (inr t)) = mark_record a f (kept_record f t)
 

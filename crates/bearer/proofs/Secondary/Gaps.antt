@@ -1,6 +1,7 @@
 -- Gaps between records: what is given up below a bound is each packet there that has no record, and the lowest index from a
 -- bound on that has none.
 -- Assumes nothing.
+use Rattle.std.specs.Prelude.{if◌then◌else◌}
 use mathlib.Core.Path.{◌≡◌, refl, sym, ◌∙◌, ap, ap₂}
 use mathlib.Core.Bool.{Bool, true, false, not}
 use mathlib.Core.List.{List, [], ◌∷◌, ◌++◌, map, map-append, append-nil}
@@ -10,7 +11,7 @@ use native.Mathlib.Omega.{arith}
 use borrow.Author.Tests.{ltb-true, ltb-false, le-ltb, leb-true, leb-false, le-leb, lt-leb, eqb-true, eqb-false, eq-eqb, ne_eqb}
 use lib.Dec.{ltb, leb, eqb}
 use lib.ListN.{length, length-append}
-use Rattle.basics.specs.Basics.{if◌then◌else◌, ◌or◌}
+use Rattle.basics.specs.Basics.{◌or◌}
 use Rattle.basics.proofs.Choices.{leb_alike, eqb_alike, choice, tested, refuted}
 use Rattle.bearer.specs.Losses.{Gap, gap, outside, gaps, size_of, lowest}
 use Rattle.bearer.specs.Rule.{is_in, only}

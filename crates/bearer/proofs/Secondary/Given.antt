@@ -1,6 +1,7 @@
 -- Each open, and each call on a secondary that calls reach, is refused with the first number of document 01's order whose sentence holds, and
 -- accepted if none does (specs/Refusals.antt): test by test, each of which says its sentence (Sentences.antt).
 -- Assumes nothing.
+use Rattle.std.specs.Prelude.{if◌then◌else◌}
 use mathlib.Core.Path.{◌≡◌, refl, sym, ◌∙◌, ap, subst}
 use mathlib.Core.Bool.{Bool, true, false, not}
 use mathlib.Core.List.{List, [], ◌∷◌}
@@ -10,7 +11,7 @@ use native.Mathlib.Omega.{arith}
 use borrow.Author.Tests.{ltb-true, leb-false, not-false}
 use lib.Dec.{ltb, leb}
 use lib.ListN.{length, drop, length-map}
-use Rattle.basics.specs.Basics.{Outcome, if◌then◌else◌, ◌and◌, done, refused}
+use Rattle.basics.specs.Basics.{Outcome, ◌and◌, done, refused}
 use Rattle.basics.specs.Refusals.{Refusal, ◌when◌, Given}
 use Rattle.basics.proofs.Choices.{tested, contrary, and_true}
 use Rattle.basics.proofs.Refusals.{Says, says_below, says_at_most, says_holds, says_and, says_past, given_of, given_by}
@@ -43,7 +44,7 @@ use Rattle.bearer.proofs.Secondary.Sentences.{says_has, says_span, says_runs, sa
 -- ---- open: 7, 10
 
 open_given : {A : Type 0} (L first f : ℕ) (fresh : A)
-    → Given (open_refusals L first f) (if not (is_length L) then refused 7 else if not (ltb first (modulus_of L) and ltb f (pdcps L)) then refused 10 else done fresh)
+    → Given (open_refusals L first f) (if not (is_length L) then refused 7 else (if not (ltb first (modulus_of L) and ltb f (pdcps L)) then refused 10 else done fresh))
 open_given L first f fresh =
     given_by (not (is_length L)) 7 (drop 1 (open_refusals L first f)) _ (says_length L)
     (λ _. given_by (not (ltb first (modulus_of L) and ltb f (pdcps L))) 10 [] _ (says_number L first f) (λ _. refl))
@@ -120,7 +121,7 @@ module _ (L first : ℕ) {base : ℕ} {a : Account} (F : Follows (half L) (index
 
     -- the calls' answer from 19 on
     abbrev Rest : Type 0
-    Rest = Given (drop 2 (expiry_refusals L first a base n)) (if K.mark_beyond k n then refusing 19 k else if K.none_precedes k n then refusing 17 k else K.expire_below k d).answer
+    Rest = Given (drop 2 (expiry_refusals L first a base n)) (if K.mark_beyond k n then refusing 19 k else (if K.none_precedes k n then refusing 17 k else K.expire_below k d)).answer
 
     -- 19, 17, 14, of a mark that doesn't lie before base
     mark_on_given : before (modulus_of L) (number_of L first base) n ≡ false → Rest

@@ -1,6 +1,7 @@
 -- The secondary's machine on numbers does what the machine on packet indexes does (Index.antt), wherever all packets of the
 -- state lie within half the circle of base: each call answers the same and leaves the image of the same state.
 -- Assumes nothing.
+use Rattle.std.specs.Prelude.{if◌then◌else◌}
 use mathlib.Core.Path.{◌≡◌, refl, sym, ◌∙◌, ap}
 use mathlib.Core.Bool.{Bool, true, false}
 use mathlib.Core.Logic.{⊎_elim}
@@ -10,7 +11,7 @@ use native.Mathlib.Nat.{mod-lt}
 use borrow.Author.Tests.{leb-false, lt-ltb, le-ltb}
 use lib.Dec.{ltb, leb, eqb}
 use lib.ListN.{length, length-map}
-use Rattle.basics.specs.Basics.{if◌then◌else◌, done}
+use Rattle.basics.specs.Basics.{done}
 use Rattle.basics.proofs.Choices.{tested, contrary, chosen, choice, never_done}
 use Rattle.basics.proofs.Lists.{map_inserted}
 use Rattle.circle.specs.Circle.{forward}

@@ -1,6 +1,7 @@
 -- The secondary's machine on numbers does what the machine on packet indexes does (Index.antt), wherever all packets of the
 -- state lie within half the circle of base: confirm and status; and the numbers that runs hold, packet by packet.
 -- Assumes nothing.
+use Rattle.std.specs.Prelude.{if◌then◌else◌}
 use mathlib.Core.Path.{◌≡◌, refl, sym, ◌∙◌, ap}
 use mathlib.Core.Bool.{Bool, true, false, not}
 use mathlib.Core.List.{List, [], ◌∷◌, map, map-map}
@@ -9,7 +10,7 @@ use native.Mathlib.Omega.{arith}
 use borrow.Author.Tests.{ltb-true, leb-false, eqb-true, not-false}
 use lib.Dec.{ltb, leb, eqb}
 use lib.ListN.{length, get_or, take, drop, set, length-map}
-use Rattle.basics.specs.Basics.{if◌then◌else◌, ◌and◌, done}
+use Rattle.basics.specs.Basics.{◌and◌, done}
 use Rattle.basics.proofs.Choices.{or_false}
 use Rattle.basics.proofs.Lists.{map_take, map_drop, map_set, get_d_within}
 use Rattle.circle.specs.Lengths.{modulus_of, half}

@@ -2,12 +2,13 @@
 -- specs/Keeper.antt has distances on a circle. It is a step of the proof and no statement rests on it: Image.antt shows that the machine
 -- does the same, and Follows.antt that it is what the rule says.
 -- Assumes nothing.
+use Rattle.std.specs.Prelude.{if◌then◌else◌}
 use mathlib.Core.Bool.{Bool, true, false}
 use mathlib.Core.List.{List, [], ◌∷◌, ◌++◌, map}
 use Prim.Native.Nat.{ℕ, zero, suc, ◌+◌, ◌-◌, max}
 use lib.Dec.{ltb, leb, eqb}
 use lib.ListN.{length, get_or, drop, set}
-use Rattle.basics.specs.Basics.{if◌then◌else◌, ◌and◌, ◌or◌}
+use Rattle.basics.specs.Basics.{◌and◌, ◌or◌}
 use Rattle.basics.proofs.Lists.{inserted}
 use Rattle.frame_layout.specs.Frames.{most_ranges}
 use Rattle.bearer.specs.Bearer.{After, refusing, answering, window, most_runs, most_records}
@@ -141,8 +142,8 @@ raised_base_i a l top = a.base + lowest l (above_i a ++ (top ∷ []))
 abbrev pub arrived_base_i : Indexed → ℕ → ℕ → ℕ
 arrived_base_i a p d =
     if eqb d 0 then a.base + lowest 1 (past_base a.base (drop p (indexes a.records))) else
-    if ltb d window then a.base else
-    raised_base_i a (limit_of d) d
+    (if ltb d window then a.base else
+    raised_base_i a (limit_of d) d)
 
 -- the record of an arrival: the handset hasn't it yet
 abbrev pub new_held : ℕ → ℕ → Held
@@ -156,10 +157,10 @@ arrived_i a pdcp p d = a with_base arrived_base_i a p d with_runs runs_after_i a
 abbrev pub arrive_i : ℕ → Indexed → ℕ → ℕ → ℕ → After Indexed ℕ
 arrive_i h a pdcp p d =
     if has_i a (a.base + d) p then refusing 12 a else
-    if leb h (floor_i a + d) then refusing 13 a else
-    if ltb most_runs (length (runs_after_i a (limit_of d))) then refusing 14 a else
-    if leb most_records (length a.records) then refusing 15 a else
-    answering (size_of (given_up_i a (limit_of d))) (arrived_i a pdcp p d)
+    (if leb h (floor_i a + d) then refusing 13 a else
+    (if ltb most_runs (length (runs_after_i a (limit_of d))) then refusing 14 a else
+    (if leb most_records (length a.records) then refusing 15 a else
+    answering (size_of (given_up_i a (limit_of d))) (arrived_i a pdcp p d))))
 
 -- ---- expiry with the mark base + d
 

@@ -1,6 +1,7 @@
 -- Every state of the secondary that calls reach from open means what document 01 says (specs/KeeperMeaning.antt): the machine does what the
 -- index machine does (Image.antt), that follows the rule (Follows.antt), and its state is the account's (Accounts.antt).
 -- Assumes nothing.
+use Rattle.std.specs.Prelude.{if◌then◌else◌}
 use mathlib.Core.Path.{◌≡◌, refl, sym, ◌∙◌, ap, subst}
 use mathlib.Core.Bool.{Bool, false, not}
 use mathlib.Core.List.{List, [], ◌∷◌, ◌++◌, map}
@@ -9,7 +10,7 @@ use Prim.Native.Nat.{ℕ, ◌+◌, ◌≤◌, ◌<◌}
 use borrow.Author.Tests.{ltb-true, not-false}
 use lib.Dec.{ltb}
 use lib.ListN.{length, get_or, take, drop}
-use Rattle.basics.specs.Basics.{if◌then◌else◌, ◌and◌, ◌or◌, some_in, done, refused}
+use Rattle.basics.specs.Basics.{◌and◌, ◌or◌, some_in, done, refused}
 use Rattle.basics.proofs.Choices.{tested, and_true, never_done}
 use Rattle.circle.specs.Circle.{forward}
 use Rattle.circle.specs.Sides.{lies}

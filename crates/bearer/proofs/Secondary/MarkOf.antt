@@ -1,6 +1,7 @@
 -- Which packet a mark names (`mark_of` of specs/Packets.antt), and so what an expiry on an open end does: either it is refused, and the mark's packet
 -- is at or before base, or it names a packet past base that isn't beyond the last record, and the machine goes by its distance.
 -- Assumes nothing.
+use Rattle.std.specs.Prelude.{if◌then◌else◌}
 use mathlib.Core.Path.{◌≡◌, refl, sym, ◌∙◌, ap}
 use mathlib.Core.Bool.{Bool, true, false, not}
 use mathlib.Core.List.{List, [], ◌∷◌}
@@ -10,7 +11,7 @@ use native.Mathlib.Omega.{arith}
 use native.Mathlib.Nat.{mod-lt}
 use borrow.Author.Tests.{leb-true, leb-false, eqb-true, eqb-false}
 use lib.Dec.{leb, eqb}
-use Rattle.basics.specs.Basics.{if◌then◌else◌, ◌and◌}
+use Rattle.basics.specs.Basics.{◌and◌}
 use Rattle.basics.proofs.Choices.{tested, contrary, chosen, otherwise, order}
 use Rattle.circle.specs.Lengths.{modulus_of, half}
 use Rattle.bearer.specs.Bearer.{After, refusing}

@@ -15,7 +15,7 @@ use Rattle.basics.proofs.Choices.{tested, contrary, and_true, and_no, order}
 use Rattle.bearer.specs.Rule.{Fates, is_in, is_open, Lowest, below, only, open_below}
 use Rattle.bearer.specs.Packets.{In, Rising}
 use Rattle.bearer.specs.Account.{packets_from}
-use Rattle.bearer.proofs.Lists.Elements.{in_head, in_tail, in_cons, rising_head, rising_tail, rising_cons}
+use Rattle.bearer.proofs.Lists.Elements.{in_head, in_tail, in_cons, rising_head, rising_tail, rising_cons, in_first}
 use Rattle.bearer.proofs.Lists.Rows.{in_packets, packets_append}
 
 -- ---- open, received, lost
@@ -65,7 +65,7 @@ pub in_only : (p : ℕ → Bool) (xs : List ℕ) (i : ℕ) → In i (only p xs) 
 in_only p [] i h = absurd (contrary h refl)
 in_only p (x ∷ xs) i h =
     ⊎_elim
-    (λ e. ⊎_elim (λ q. rw q (in_head x xs, e)) (λ t. behind (in_only p xs i t)) (in_cons i x (only p xs) (rw e at h)))
+    (λ e. ⊎_elim (λ q. (in_first i x xs q, rw q e)) (λ t. behind (in_only p xs i t)) (in_cons i x (only p xs) (rw e at h)))
     (λ e. behind (in_only p xs i (rw e at h)))
     (tested (p x))
   where

@@ -1,6 +1,7 @@
 -- Tests of the secondary's machine, on packet indexes where it has them (Index.antt), and the sentences of document 01's table that they say
 -- (specs/Refusals.antt): 12, 13, 14, 16, 17 and 19.
 -- Assumes nothing.
+use Rattle.std.specs.Prelude.{if◌then◌else◌}
 use mathlib.Core.Path.{◌≡◌, refl, sym, ◌∙◌, ap, subst}
 use mathlib.Core.Bool.{Bool, true, false, not}
 use mathlib.Core.List.{List, [], ◌∷◌, map}
@@ -11,7 +12,7 @@ use native.Mathlib.Nat.{le_of_suc-le-suc}
 use borrow.Author.Tests.{ltb-false, le-ltb, le-leb, lt-leb, eqb-true, eqb-false, not-true}
 use lib.Dec.{ltb, leb, eqb}
 use lib.ListN.{length, get_or, length-map}
-use Rattle.basics.specs.Basics.{if◌then◌else◌, ◌or◌}
+use Rattle.basics.specs.Basics.{◌or◌}
 use Rattle.basics.specs.Refusals.{Some}
 use Rattle.basics.proofs.Choices.{tested, refuted, contrary, order, or_true, or_left, or_right}
 use Rattle.basics.proofs.Refusals.{Says, says_as, says_below, says_at_most}
@@ -49,12 +50,14 @@ says_in i hs = record { there = there hs; back = back hs }
     there (x ∷ xs) t = ⊎_elim (λ q. inl (sym q)) (λ u. inr (there xs u)) (in_cons i x.index (indexes xs) t)
 
     back : (xs : List Held) → Some (λ (h : Held). h.index ≡ i) xs → In i (indexes xs)
+    back [] s = elim s [ ]
     back (x ∷ xs) (inl q) = rw q (in_head i (indexes xs))
     back (x ∷ xs) (inr s) = in_tail i x.index (indexes xs) (back xs s)
 
 -- what holds of some record of a place's packet holds of the one there: a packet has one record
 only_one : (P : Held → Type 0) (hs : List Held) (p : ℕ) → Rising (indexes hs) → p < length hs
     → Some (λ (h : Held). (h.index ≡ (get_or hs p no_held).index) × P h) hs → P (get_or hs p no_held)
+only_one P [] p r l s = elim s [ ]
 only_one P (x ∷ xs) zero r l (inl w) = w.1
 only_one P (x ∷ xs) zero r l (inr s) =
     absurd (some_never _ xs (λ h w. omega (arith, w.0, w.1.0))
@@ -65,6 +68,7 @@ only_one P (x ∷ xs) (suc p) r l (inr s) = only_one P xs p (rising_tail x.index
 
 -- a number that a record bears is found
 bears_found : (L first n : ℕ) (hs : List Held) → Some (Bears L first n) hs → K.index_of n (K.numbers_of (map (record_at L first) hs)) < length hs
+bears_found L first n [] s = elim s [ ]
 bears_found L first n (x ∷ xs) s = by (eqb (number_of L first x.index) n) refl s (bears_found L first n xs)
   where
     place : ℕ
