@@ -1,15 +1,15 @@
 -- What the writer is shown of a list says what the list says: the table's front is the list where a status carries it, and a list that no status carries is refused alike.
 -- Assumes nothing.
+use Rattle.std.specs.Prelude.{if◌then◌else◌}
 use mathlib.Core.Bool.{Bool, true, false}
 use mathlib.Core.Path.{◌≡◌, refl, sym, ◌∙◌, ap}
 use mathlib.Core.List.{List, [], ◌∷◌, ◌++◌, map, map-append}
-use Prim.Native.Nat.{ℕ, zero, suc, ◌≤◌, ◌<◌}
+use Prim.Native.Nat.{ℕ, zero, suc, ◌≤◌}
 use native.Mathlib.Omega.{arith}
-use borrow.Author.Tests.{ltb-true, ltb-false}
+use borrow.Author.Tests.{ltb-false}
 use lib.Dec.{ltb}
 use lib.ListN.{length, take, length-set, length-map}
 use lib.Seq.{take-length, take-suc, take-suc-set}
-use Rattle.basics.specs.Basics.{if◌then◌else◌}
 use Rattle.frame_layout.specs.Frames.{most_ranges, ranges_of, write_status}
 use Rattle.frame_layout.specs.Frames as frames
 use Rattle.frame_writer.specs.declared.Head.{Head}
@@ -31,23 +31,6 @@ column_front f rs (suc k) there few =
     take-suc-set (column f rs k) k (f (range_at rs k)) (omega (arith, few, column_long f rs k))
     ∙ ap (λ (l : List ℕ). l ++ (f (range_at rs k) ∷ [])) (column_front f rs k (omega (arith, there)) (omega (arith, few)))
     ∙ sym (map-append f (take k rs) (range_at rs k ∷ [])) ∙ ap (map f) (sym (take-suc rs k (record { start = 0; end = 0 }) there))
-
--- ---- how many
-
--- what is within a bound either way is within it
-carried_within : (n other most : ℕ) → (most_ranges < n → other ≤ most) → (n ≤ most_ranges → n ≤ most) → carried_or n other ≤ most
-carried_within n other most more few = by_test (ltb most_ranges n) refl
-  where
-    by_test : (b : Bool) → ltb most_ranges n ≡ b → (if b then other else n) ≤ most
-    by_test true e = more (ltb-true most_ranges n e)
-    by_test false e = few (ltb-false most_ranges n e)
-
--- no more are copied than the list has, and no more are shown than the table has
-pub copied_within : (n : ℕ) → carried_or n 0 ≤ n
-copied_within n = carried_within n 0 n (λ _. omega arith) (λ _. omega arith)
-
-pub shown_within : (n : ℕ) → carried_or n places ≤ places
-shown_within n = carried_within n places places (λ _. omega arith) (λ few. omega (arith, few))
 
 -- ---- the ranges
 

@@ -1,7 +1,6 @@
 -- A lent list of ranges: the status that it says, and its starts and ends as lists of numbers.
 -- Assumes nothing.
-use Rattle.std.specs.Prelude.{List, map, ℕ, zero, suc, ltb, get_or, set, take, replicate}
-use Rattle.basics.specs.Basics.{if◌then◌else◌}
+use Rattle.std.specs.Prelude.{List, map, ℕ, zero, suc, ltb, get_or, set, take, replicate, if◌then◌else◌}
 use Rattle.frame_layout.specs.Frames.{Status, ranges_of, most_ranges}
 use Rattle.frame_layout.specs.Frames as frames
 use Rattle.frame_writer.specs.declared.Head.{Head}

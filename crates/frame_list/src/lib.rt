@@ -1,5 +1,7 @@
-// The writer of a status over a lent list of ranges. The starts and the ends are copied out of the list, and the covered
-// writer, which takes numbers, does the work.
+// The writer of a status over a lent list of ranges. The starts and the ends are copied out of the list, and the writer
+// of `frame_writer`, which takes numbers, does the work.
+#![tactic(auto)]
+
 ghost use Rattle.std.specs.Prelude.{◌≡◌, ◌≤◌, ◌<◌, length};
 ghost use Rattle.frame_layout.specs.Frames.{write_status as «write_status_of»};
 ghost use Rattle.frame_writer.specs.Answers.{left, account_status};
@@ -9,7 +11,7 @@ ghost use Rattle.frame_list.specs.Lists.{ranges_in, range_at, empty_table, put_r
 const PLACES: usize = frame_layout::MOST_RANGES + 1;
 
 // A range runs forward from start through end.
-#[derive(Drop)]
+#[derive(Clone, Copy)]
 pub struct Range {
     pub start: u32,
     pub end: u32,

@@ -1,6 +1,7 @@
 -- The walk over a status's ranges, for a caller's loop: from the cursor that `first_range` gives, `next_range` answers
 -- the status's ranges one after another, and then that none is left.
 -- Assumes nothing.
+use Rattle.std.specs.Prelude.{if◌then◌else◌}
 use mathlib.Core.Bool.{Bool, true, false}
 use mathlib.Core.List.{List, [], ◌∷◌}
 use mathlib.Core.Path.{◌≡◌, refl, sym, ◌∙◌, ap}
@@ -9,7 +10,6 @@ use native.Mathlib.Omega.{arith}
 use borrow.Author.Tests.{le-ltb, ltb-false}
 use lib.Dec.{ltb, eqb-suc-zero}
 use lib.ListN.{length, get_or}
-use Rattle.basics.specs.Basics.{if◌then◌else◌}
 use Rattle.frame_layout.specs.Octets.{field}
 use Rattle.frame_layout.specs.Frames.{Range, Status, status_of, most_ranges, width, list_at, count_at, ranges_at, read_frame, listed_in, count_in}
 use Rattle.frame_layout.specs.Trips.{AreOctets, GoodLength, Frame as Framed, status_frame, reading_of as meant}
@@ -21,13 +21,13 @@ use Rattle.frame_reader.specs.declared.Head.{Head}
 use Rattle.frame_reader.specs.declared.Frame.TheVariants as frame
 use Rattle.frame_reader.specs.declared.Cursor.{Cursor}
 use Rattle.frame_reader.specs.declared.Step.TheVariants as step
-use Rattle.frame_reader.specs.Answers.{reading_of, cursorOf, nextIn, rangesFrom, Held, there}
+use Rattle.frame_reader.specs.Answers.{reading_of, cursor_of, next_in, ranges_from, Held, there}
 use Rattle.frame_reader.proofs.Unique.{same_status}
 
 -- a walk from a cursor on: each range that is answered, and that none is left behind the last
 pub data Walk (s : List ℕ) : Cursor → List Range → Type 0 where
-  ends : {c : Cursor} → nextIn s c ≡ step.End → Walk s c []
-  goes : {c d : Cursor} {r : Range} {rs : List Range} → nextIn s c ≡ step.Range r.start r.end d → Walk s d rs → Walk s c (r ∷ rs)
+  ends : {c : Cursor} → next_in s c ≡ step.End → Walk s c []
+  goes : {c d : Cursor} {r : Range} {rs : List Range} → next_in s c ≡ step.Range r.start r.end d → Walk s d rs → Walk s c (r ∷ rs)
 
 -- ---- a step, by what is left
 
@@ -38,14 +38,14 @@ held_behind false place n m h = omega arith
 
 -- a range is left, and the frame holds it: it is answered, with the cursor behind it
 pub one_left : (s : List ℕ) (long : Bool) (place n : ℕ) → place + 2 * width long ≤ length s
-    → nextIn s (record { long = long; place = place; left = suc n })
+    → next_in s (record { long = long; place = place; left = suc n })
     ≡ step.Range (field s place (width long)) (field s (place + width long) (width long)) (record { long = long; place = place + 2 * width long; left = n })
 one_left s long place n h =
     let less : suc n - 1 ≡ n = omega arith in
     rw (eqb-suc-zero n, le-ltb (length s) (place + 2 * width long) h, less)
 
 -- none is left
-pub none_left : (s : List ℕ) (long : Bool) (place : ℕ) → nextIn s (record { long = long; place = place; left = 0 }) ≡ step.End
+pub none_left : (s : List ℕ) (long : Bool) (place : ℕ) → next_in s (record { long = long; place = place; left = 0 }) ≡ step.End
 none_left s long place = refl
 
 walk_at : (s : List ℕ) (long : Bool) (place n : ℕ) → place + n * (2 * width long) ≤ length s
@@ -56,14 +56,14 @@ walk_at s long place (suc n) h =
     goes (one_left s long place n (omega arith)) (walk_at s long (place + 2 * width long) n behind)
 
 -- from a cursor whose ranges the frame holds, the walk answers them all
-pub walks : (s : List ℕ) (c : Cursor) → Held s c → Walk s c (rangesFrom s c)
+pub walks : (s : List ℕ) (c : Cursor) → Held s c → Walk s c (ranges_from s c)
 walks s c h = walk_at s c.long c.place c.left h
 
 -- ---- a step, by what was answered
 
 -- a range was answered: it is the first of those ahead, and the others are ahead of the cursor that came with it
 pub record Went (s : List ℕ) (c : Cursor) (a b : ℕ) (d : Cursor) : Type 0 where
-  pub split : rangesFrom s c ≡ record { start = a; end = b } ∷ rangesFrom s d
+  pub split : ranges_from s c ≡ record { start = a; end = b } ∷ ranges_from s d
   pub fewer : d.left + 1 ≡ c.left
   pub form : d.long ≡ c.long
   pub inside : d.place ≤ length s
@@ -73,7 +73,7 @@ by_test : (t : Bool) (a b m n : ℕ) (c d : Cursor) → (if t then step.End else
 by_test true a b m n c d e = apart (cc)
 by_test false a b m n c d e = (refl, cc, cc, cc)
 
-went_at : (s : List ℕ) (long : Bool) (place left a b : ℕ) (d : Cursor) → nextIn s (record { long = long; place = place; left = left }) ≡ step.Range a b d
+went_at : (s : List ℕ) (long : Bool) (place left a b : ℕ) (d : Cursor) → next_in s (record { long = long; place = place; left = left }) ≡ step.Range a b d
     → Went s (record { long = long; place = place; left = left }) a b d
 went_at s long place zero a b d e = apart (cc)
 went_at s long place (suc n) a b d e =
@@ -82,7 +82,7 @@ went_at s long place (suc n) a b d e =
     rw (← p.1, ← p.2, ← p.3) (record { split = refl; fewer = omega arith; form = refl; inside = ltb-false _ _ p.0; held = held_behind long place n (length s) })
 
 -- a caller whose cursor is c learns this from the answer
-pub went : (s : List ℕ) (c : Cursor) {a b : ℕ} {d : Cursor} → nextIn s c ≡ step.Range a b d → Went s c a b d
+pub went : (s : List ℕ) (c : Cursor) {a b : ℕ} {d : Cursor} → next_in s c ≡ step.Range a b d → Went s c a b d
 went s c {a} {b} {d} e = went_at s c.long c.place c.left a b d e
 
 -- a field of a form's width is on its circle
@@ -90,7 +90,7 @@ on_circle : (s : List ℕ) (i : ℕ) (long : Bool) → AreOctets s → field s i
 on_circle s i true o = field_below s i 3 o
 on_circle s i false o = field_below s i 2 o
 
-within_at : (s : List ℕ) (long : Bool) (place left a b : ℕ) (d : Cursor) → AreOctets s → nextIn s (record { long = long; place = place; left = left }) ≡ step.Range a b d
+within_at : (s : List ℕ) (long : Bool) (place left a b : ℕ) (d : Cursor) → AreOctets s → next_in s (record { long = long; place = place; left = left }) ≡ step.Range a b d
     → (a < modulus long) × (b < modulus long)
 within_at s long place zero a b d o e = apart (cc)
 within_at s long place (suc n) a b d o e =
@@ -98,11 +98,11 @@ within_at s long place (suc n) a b d o e =
     rw (← p.1, ← p.2) (on_circle s place long o, on_circle s (place + width long) long o)
 
 -- the numbers of a range that was answered are on the circle of the cursor's form
-pub within : (s : List ℕ) (c : Cursor) {a b : ℕ} {d : Cursor} → AreOctets s → nextIn s c ≡ step.Range a b d → (a < modulus c.long) × (b < modulus c.long)
+pub within : (s : List ℕ) (c : Cursor) {a b : ℕ} {d : Cursor} → AreOctets s → next_in s c ≡ step.Range a b d → (a < modulus c.long) × (b < modulus c.long)
 within s c {a} {b} {d} o e = within_at s c.long c.place c.left a b d o e
 
 end_at : (s : List ℕ) (long : Bool) (place left : ℕ) → place + left * (2 * width long) ≤ length s
-    → nextIn s (record { long = long; place = place; left = left }) ≡ step.End → left ≡ 0
+    → next_in s (record { long = long; place = place; left = left }) ≡ step.End → left ≡ 0
 end_at s long place zero h e = refl
 end_at s long place (suc n) h e =
     let behind = held_behind long place n (length s) h in
@@ -110,11 +110,11 @@ end_at s long place (suc n) h e =
     cc
 
 -- that none is left was answered, and the frame holds what is ahead: nothing is
-pub ended : (s : List ℕ) (c : Cursor) → Held s c → nextIn s c ≡ step.End → rangesFrom s c ≡ []
+pub ended : (s : List ℕ) (c : Cursor) → Held s c → next_in s c ≡ step.End → ranges_from s c ≡ []
 ended s c h e = rw (end_at s c.long c.place c.left h e)
 
 -- the frame holds what is ahead, and it is no more than a frame carries: it is all there
-pub all_there : (s : List ℕ) (c : Cursor) → c.left ≤ most_ranges → Held s c → rangesFrom s c ≡ there s c
+pub all_there : (s : List ℕ) (c : Cursor) → c.left ≤ most_ranges → Held s c → ranges_from s c ≡ there s c
 all_there s c h k = rw (le-ltb most_ranges c.left h, le-ltb (length s) (c.place + c.left * (2 * width c.long)) k)
 
 -- ---- from a frame that is read as a status
@@ -135,7 +135,7 @@ before st = record { long = st.long; place = list_at (width st.long); left = len
 pub record Stands (s : List ℕ) (st : Status) : Type 0 where
   pub held : Held s (before st)
   pub few : length st.ranges ≤ most_ranges
-  pub there : rangesFrom s (before st) ≡ st.ranges
+  pub there : ranges_from s (before st) ≡ st.ranges
 
 stands_read : (s : List ℕ) (st : Status) (f : Framed) → meant f ≡ status_of st → GoodLength (length s) → Read s f → Stands s st
 stands_read s st f e g (as_data long t) = apart (cc)
@@ -154,12 +154,12 @@ stands s st e =
     stands_read s st (status_frame st) refl r.0 r.1
 
 -- the frame holds the ranges from the first cursor on
-pub held_first : (s : List ℕ) (h : Head) → reading_of s (frame.Status h) ≡ read_frame s → Held s (cursorOf h)
+pub held_first : (s : List ℕ) (h : Head) → reading_of s (frame.Status h) ≡ read_frame s → Held s (cursor_of h)
 held_first s h e = rw (length_ranges_at s (width h.long) (list_at (width h.long)) h.count) at (stands s _ (sym e)).held
 
 -- the walk over a frame that is read as a status answers the status's ranges
 pub whole_walk : (s : List ℕ) (h : Head) (st : Status) → reading_of s (frame.Status h) ≡ read_frame s → read_frame s ≡ status_of st
-    → Walk s (cursorOf h) st.ranges
+    → Walk s (cursor_of h) st.ranges
 whole_walk s h st e f =
-    let says : rangesFrom s (cursorOf h) ≡ st.ranges = ap (λ (x : Status). x.ranges) (same_status _ _ (e ∙ f)) in
-    rw (← says) (walks s (cursorOf h) (held_first s h e))
+    let says : ranges_from s (cursor_of h) ≡ st.ranges = ap (λ (x : Status). x.ranges) (same_status _ _ (e ∙ f)) in
+    rw (← says) (walks s (cursor_of h) (held_first s h e))

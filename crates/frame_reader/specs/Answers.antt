@@ -1,7 +1,7 @@
 -- What the reader's answers mean in document 01's words, and what the walk over a status's ranges answers.
 -- Assumes nothing.
-use Rattle.std.specs.Prelude.{List, [], ℕ, ◌+◌, ◌-◌, ◌*◌, ◌≤◌, ltb, eqb, length}
-use Rattle.basics.specs.Basics.{if◌then◌else◌, ◌or◌}
+use Rattle.std.specs.Prelude.{List, [], ℕ, ◌+◌, ◌-◌, ◌*◌, ◌≤◌, ltb, eqb, length, if◌then◌else◌}
+use Rattle.basics.specs.Basics.{◌or◌}
 use Rattle.frame_layout.specs.Octets.{field}
 use Rattle.frame_layout.specs.Frames as frames
 use Rattle.frame_layout.specs.Frames.{Reading, data_of, status_of, refuse, width, most_ranges, list_at, ranges_at}
@@ -13,12 +13,12 @@ use Rattle.frame_reader.specs.declared.Step.{Step}
 use Rattle.frame_reader.specs.declared.Step.TheVariants.{Range, End}
 
 -- the cursor before the first range of a status
-abbrev pub cursorOf : Head → Cursor
-cursorOf h = record { long = h.long; place = list_at (width h.long); left = h.count }
+abbrev pub cursor_of : Head → Cursor
+cursor_of h = record { long = h.long; place = list_at (width h.long); left = h.count }
 
 -- the ranges from a cursor on
-abbrev pub rangesFrom : List ℕ → Cursor → List frames.Range
-rangesFrom s c = ranges_at s (width c.long) c.place c.left
+abbrev pub ranges_from : List ℕ → Cursor → List frames.Range
+ranges_from s c = ranges_at s (width c.long) c.place c.left
 
 -- the status that a head says, its ranges out of the frame that was read
 abbrev pub account_status : List ℕ → Head → frames.Status
@@ -28,7 +28,7 @@ account_status s h = record {
   highest = h.highest;
   desired = h.desired;
   minimum = h.minimum;
-  ranges = rangesFrom s (cursorOf h);
+  ranges = ranges_from s (cursor_of h);
 }
 
 -- the reading that an answer stands for
@@ -43,11 +43,11 @@ Held s c = c.place + c.left * (2 * width c.long) ≤ length s
 
 -- the ranges from a cursor on, where the frame holds them all and they are no more than a frame carries; otherwise none
 abbrev pub there : List ℕ → Cursor → List frames.Range
-there s c = if ltb most_ranges c.left or ltb (length s) (c.place + c.left * (2 * width c.long)) then [] else rangesFrom s c
+there s c = if ltb most_ranges c.left or ltb (length s) (c.place + c.left * (2 * width c.long)) then [] else ranges_from s c
 
 -- the range at a cursor and the cursor behind it; none where none is left or the frame has ended
-abbrev pub nextIn : List ℕ → Cursor → Step
-nextIn s c =
+abbrev pub next_in : List ℕ → Cursor → Step
+next_in s c =
     if eqb c.left 0 or ltb (length s) (c.place + 2 * width c.long) then End
     else Range (field s c.place (width c.long)) (field s (c.place + width c.long) (width c.long))
     (record { long = c.long; place = c.place + 2 * width c.long; left = c.left - 1 })

@@ -1,16 +1,18 @@
 // Reading X2-U frames of types 0 to 3 (TS 36.425 V15.0.0, 5.5). Nothing is copied: a status's ranges are
 // reached one after another over the caller's frame.
+#![tactic(auto)]
+
 ghost use Rattle.std.specs.Prelude.{◌≡◌, ◌+◌, ◌*◌, ◌≤◌, ◌<◌, length};
 ghost use Rattle.std.proofs.lemmas.List.Edits.{sets};
 ghost use Rattle.frame_layout.specs.Octets.{field};
 ghost use Rattle.frame_layout.specs.Frames.{width, most_ranges, least_octets, count_refused, starts_of, ends_of, type_in as «type_in_of», final_in as «final_in_of», listed_in as «listed_in_of», count_at, count_in as «count_in_of», fixed_end as «fixed_end_of», status_in, bad_length as «bad_length_of», ranges_at, status_of, read_status as «read_status_of», read_type as «read_type_of», read_frame};
-ghost use Rattle.frame_reader.specs.Answers.{reading_of, cursorOf, nextIn, there};
+ghost use Rattle.frame_reader.specs.Answers.{reading_of, cursor_of, next_in, there};
 
 // The most ranges that a status carries, as counts are.
 const MOST_RANGES: u32 = frame_layout::MOST_RANGES as u32;
 
 // What a status says before its list, and how many ranges the list has.
-#[derive(Drop)]
+#[derive(Clone, Copy)]
 pub struct Head {
     pub long: bool,
     pub last: bool,
@@ -29,7 +31,7 @@ pub enum Frame {
 }
 
 // A place in a status's list: where the next range stands, and how many are left.
-#[derive(Drop)]
+#[derive(Clone, Copy)]
 pub struct Cursor {
     pub long: bool,
     pub place: usize,
@@ -252,7 +254,7 @@ pub fn read(frame: &[u8]) -> Frame
 
 // The cursor before a status's first range.
 pub fn first_range(head: Head) -> Cursor
-    ensures { result ≡ cursorOf head }
+    ensures { result ≡ cursor_of head }
 {
     let long = head.long;
     Cursor {
@@ -264,7 +266,7 @@ pub fn first_range(head: Head) -> Cursor
 
 // The range at a cursor.
 pub fn next_range(frame: &[u8], at: Cursor) -> Step
-    ensures { result ≡ nextIn frame.now at }
+    ensures { result ≡ next_in frame.now at }
 {
     let long = at.long;
     let place = at.place;

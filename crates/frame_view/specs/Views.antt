@@ -1,7 +1,7 @@
 -- Where a view stands in a frame.
 -- Assumes nothing.
 use Rattle.std.specs.Prelude.{Bool, List, ℕ}
-use Rattle.frame_reader.specs.Answers.{nextIn}
+use Rattle.frame_reader.specs.Answers.{next_in}
 use Rattle.frame_reader.specs.declared.Cursor.{Cursor}
 use Rattle.frame_reader.specs.declared.Step.{Step}
 use Rattle.frame_reader.specs.declared.Step.TheVariants.{Range, End}
@@ -17,4 +17,4 @@ rest_of End c = c
 
 -- the cursor behind the range at a cursor
 abbrev pub behind_in : List ℕ → Cursor → Cursor
-behind_in s c = rest_of (nextIn s c) c
+behind_in s c = rest_of (next_in s c) c

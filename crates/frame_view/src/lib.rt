@@ -1,7 +1,9 @@
 // The ranges of a status, walked one after another over the caller's frame: a view holds the frame, and the place and the
-// count of the ranges that are left. It is taken apart, and the covered reader does the work.
+// count of the ranges that are left. It is taken apart, and the reader does the work.
+#![tactic(auto)]
+
 ghost use Rattle.std.specs.Prelude.{◌≡◌};
-ghost use Rattle.frame_reader.specs.Answers.{cursorOf, nextIn};
+ghost use Rattle.frame_reader.specs.Answers.{cursor_of, next_in};
 ghost use Rattle.frame_view.specs.Views.{cursor_at, behind_in};
 
 #[derive(Drop)]
@@ -14,7 +16,7 @@ pub struct View<'a> {
 
 // The work: the range at a place of a frame.
 pub fn range_at(frame: &[u8], long: bool, place: usize, left: u32) -> frame_reader::Step
-    ensures { result ≡ nextIn frame.now (cursor_at long place left) }
+    ensures { result ≡ next_in frame.now (cursor_at long place left) }
 {
     frame_reader::next_range(
         frame,
@@ -58,14 +60,14 @@ pub fn view_at<'a>(frame: &'a [u8], at: frame_reader::Cursor) -> View<'a>
 
 // The view of a status that was read in a frame: all of its ranges are left.
 pub fn view_of<'a>(frame: &'a [u8], head: frame_reader::Head) -> View<'a>
-    ensures { (result.frame ≡ frame.entry) × (cursor_at result.long result.place result.left ≡ cursorOf head) }
+    ensures { (result.frame ≡ frame.entry) × (cursor_at result.long result.place result.left ≡ cursor_of head) }
 {
     view_at(frame, frame_reader::first_range(head))
 }
 
 // The range that a view stands at.
 pub fn next<'a>(v: View<'a>) -> frame_reader::Step
-    ensures { result ≡ nextIn v.entry.frame.now (cursor_at v.entry.long v.entry.place v.entry.left) }
+    ensures { result ≡ next_in v.entry.frame.now (cursor_at v.entry.long v.entry.place v.entry.left) }
 {
     range_at(v.frame, v.long, v.place, v.left)
 }
@@ -84,9 +86,9 @@ pub fn behind<'a>(v: View<'a>) -> View<'a>
     }
 }
 
-// The range at a cursor, by a view: its contract says nothing of a view, so whoever calls it needs no walk by hand.
+// The range at a cursor, by a view: its contract says nothing of a view.
 pub fn next_range(frame: &[u8], at: frame_reader::Cursor) -> frame_reader::Step
-    ensures { result ≡ nextIn frame.now at }
+    ensures { result ≡ next_in frame.now at }
 {
     next(view_at(frame, at))
 }

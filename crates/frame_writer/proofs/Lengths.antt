@@ -1,19 +1,14 @@
 -- How long a status is before its padding.
 -- Assumes nothing.
-use mathlib.Core.Path.{◌≡◌, refl, ◌∙◌}
+use mathlib.Core.Path.{◌≡◌, ◌∙◌}
 use mathlib.Core.Bool.{Bool}
 use mathlib.Core.List.{List, [], ◌∷◌}
-use Prim.Native.Nat.{ℕ, zero, suc, ◌+◌, ◌*◌}
+use Prim.Native.Nat.{◌+◌}
 use native.Mathlib.Omega.{arith}
 use lib.ListN.{length, length-append}
-use Rattle.frame_layout.specs.Frames.{Range, Status, width, list_at, list_octets, status_fields}
+use Rattle.frame_layout.specs.Frames.{Range, Status, width, list_octets, status_fields}
 use Rattle.frame_layout.proofs.Octets.{length_octets, length_range_octets}
 use Rattle.frame_writer.specs.Lengths.{status_length}
-
--- a status with ranges has a list
-pub length_listed : (long : Bool) (n : ℕ) → (n ≡ 0 → ⊥) → status_length long n ≡ list_at (width long) + n * (2 * width long)
-length_listed long zero h = absurd (h refl)
-length_listed long (suc n) h = refl
 
 -- a status's fields: the fixed ones, and the list
 pub length_fields : (s : Status) → length (status_fields s) ≡ 9 + width s.long + length (list_octets (width s.long) s.ranges)

@@ -7,10 +7,10 @@ use Prim.Native.Nat.{ℕ}
 use Rattle.frame_layout.specs.Frames.{Written}
 use Rattle.frame_writer.specs.declared.Wrote.{Wrote}
 use Rattle.frame_writer.specs.declared.Wrote.TheVariants.{Octets, Refused}
-use Rattle.frame_writer.specs.Answers.{outcomeOf, left}
+use Rattle.frame_writer.specs.Answers.{outcome_of, left}
 
 -- no two answers mean the same
-pub outcome_injective : (r s : Wrote) → outcomeOf r ≡ outcomeOf s → r ≡ s
+pub outcome_injective : (r s : Wrote) → outcome_of r ≡ outcome_of s → r ≡ s
 outcome_injective (Octets m) (Octets n) e = cc
 outcome_injective (Octets m) (Refused n) e = cc
 outcome_injective (Refused m) (Octets n) e = cc

@@ -8,13 +8,13 @@ use Rattle.frame_writer.specs.declared.Wrote.TheVariants.{Octets, Refused}
 use Rattle.frame_writer.specs.declared.Head.{Head}
 
 -- how many octets were written, or the number of a refusal
-abbrev pub outcomeOf : Wrote → Outcome ℕ
-outcomeOf (Octets n) = done n
-outcomeOf (Refused n) = refused n
+abbrev pub outcome_of : Wrote → Outcome ℕ
+outcome_of (Octets n) = done n
+outcome_of (Refused n) = refused n
 
 -- what a call leaves: its answer and the buffer
 abbrev pub left : Wrote → List ℕ → Written
-left r d = record { answer = outcomeOf r; buffer = d }
+left r d = record { answer = outcome_of r; buffer = d }
 
 -- the status that a head and ranges say
 abbrev pub account_status : Head → List Range → Status

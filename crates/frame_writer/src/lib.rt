@@ -1,4 +1,6 @@
 // Writing X2-U frames of types 0 to 3 (TS 36.425 V15.0.0, 5.5) at the front of a buffer that the caller lends.
+#![tactic(auto)]
+
 ghost use Rattle.std.specs.Prelude.{◌≡◌, ◌∷◌, ◌++◌, ◌+◌, ◌*◌, ◌/◌, ◌%◌, ◌^◌, ◌≤◌, ◌<◌, length, replicate};
 ghost use Rattle.basics.specs.Basics.{all};
 ghost use Rattle.frame_layout.specs.Octets.{octets};
@@ -8,7 +10,7 @@ ghost use Rattle.frame_writer.specs.Answers.{left, account_status};
 ghost use Rattle.frame_writer.specs.Lengths.{status_length as «status_length_of»};
 
 // What a status says before its list.
-#[derive(Drop)]
+#[derive(Clone, Copy)]
 pub struct Head {
     pub long: bool,
     pub last: bool,
