@@ -1,7 +1,7 @@
 -- What is lost, written to the slots behind the runs that are listed: the list with it.
 -- Assumes nothing.
 use mathlib.Core.Path.{◌≡◌, refl, sym, ◌∙◌, ap}
-use mathlib.Core.Bool.{Bool, true, false}
+use mathlib.Core.Bool.{true, false}
 use mathlib.Core.List.{List, [], ◌∷◌, ◌++◌, append_assoc}
 use Prim.Native.Nat.{ℕ, suc, ◌+◌, ◌-◌, ◌≤◌, ◌<◌}
 use native.Mathlib.Omega.{arith}
@@ -100,14 +100,6 @@ module _ {lost : Losses} {M base : ℕ} {ns ss es : List ℕ} {n : ℕ} (h : Lis
   abbrev passed : List Gap
   passed = gaps 0 lost.limit (offsets M base (drop lost.from ns))
 
-  -- what joins has one to join
-  pub lists_some : (t : Bool) → lost.joins ≡ t → bit t ≤ n
-  lists_some false e = omega arith
-  lists_some true e =
-      let runs = take n (ranges_of ss es) in
-      let some = adjoins_listed M (ends_of runs) (new_runs M base ns lost.limit) (sym h.losing.joins_is ∙ e) in
-      omega (arith, some, length-map runs (λ (r : Range). r.end), length-take n (ranges_of ss es))
-
   -- written from a slot on
   module _ (at : ℕ) (at-is : at ≡ n - bit lost.joins) (ss' es' : List ℕ) (e-starts : ss' ≡ sets ss at (starts_of (runs_of M base passed)))
       (e-ends : es' ≡ sets es at (ends_of (runs_of M base passed))) where
@@ -134,6 +126,3 @@ module _ {M M' n n' : ℕ} {ns ns' : List ℕ} (base : ℕ) (e : M' ≡ M) (f : 
   pub lists_of : {lost : Losses} (ss es : List ℕ) → Losing lost M base ns (take n (ranges_of ss es)) → n ≤ length ss → length ss ≡ length es → lost.runs ≤ length ss
       → Lists lost M' base ns' ss es n'
   lists_of ss es losing within alike few = rw (e, f, g) (record { losing = losing; within = within; alike = alike; few = few })
-
-  pub runs_of_lem : (runs : List Range) (l : ℕ) → runs_joined M' (take n' runs) (new_runs M' base ns' l) ≡ runs_joined M (take n runs) (new_runs M base ns l)
-  runs_of_lem runs l = rw (e, f, g)

@@ -3,7 +3,7 @@
 use mathlib.Core.Path.{◌≡◌, refl, sym, ◌∙◌, ap}
 use mathlib.Core.Bool.{Bool, true, false}
 use mathlib.Core.List.{List, [], ◌∷◌, ◌++◌, append_assoc}
-use Prim.Native.Nat.{ℕ, ◌+◌, ◌-◌, ◌≤◌, ◌<◌, min}
+use Prim.Native.Nat.{ℕ, ◌+◌, ◌≤◌, ◌<◌, min}
 use native.Mathlib.Omega.{arith}
 use native.Mathlib.Numerals.{add-one}
 use lib.Dec.{ltb}
@@ -29,16 +29,6 @@ module _ (a e : List ℕ) where
       e-is ∙ rw (more, long, take-append-le place front (x ∷ []) within, drop-append-le place front (x ∷ []) within)
       (ap (λ (l : List ℕ). take (held + 1) l) (sym (append_assoc (take place front) (v ∷ drop place front) (x ∷ []))) ∙ take_at new (x ∷ []) (held + 1) one) in
       rw is-new (take_at new (drop (held + 1) a) (held + 1) one)
-
-  -- some of the first of an array taken off
-  pub taken_off : (held k : ℕ) → k ≤ held → held ≤ length a
-      → e ≡ drop k (take held a) ++ drop (length (take held a) - k) (take held a)
-      → take (held - k) (e ++ drop held a) ≡ drop k (take held a)
-  taken_off held k p h e-is =
-      let t = take held a in
-      let len : length t ≡ held = length-take-le held a h in
-      let few : length (drop k t) ≡ held - k = simp length-drop (omega arith) in
-      rw (e-is, append_assoc (drop k t) (drop (length t - k) t) (drop held a)) (take_at (drop k t) (drop (length t - k) t ++ drop held a) (held - k) few)
 
 module _ {A : Type 0} (n m : ℕ) (l : List A) where
   -- the first m of the first n

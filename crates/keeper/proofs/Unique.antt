@@ -6,7 +6,6 @@ use mathlib.Core.Path.{◌≡◌, refl, sym, ◌∙◌, ap, subst}
 use mathlib.Core.Bool.{Bool}
 use mathlib.Core.List.{List}
 use Prim.Native.Nat.{ℕ}
-use native.Mathlib.Omega.{arith}
 use Rattle.basics.specs.Basics.{Outcome}
 use Rattle.bearer.specs.Bearer.{After}
 use Rattle.bearer.specs.Keeper.{Keeper, Reported}
@@ -18,20 +17,6 @@ use Rattle.keeper.specs.declared.Asked as Q
 use Rattle.keeper.specs.View.{Arrays, state_held, opened_as, counted_as, confirmed_as, reported_as, asked_as}
 use Rattle.keeper.specs.Plain.{Plain, Sized, Alike}
 use Rattle.keeper.proofs.Alike.{alike_own, same_arrays}
-
--- ---- an accepted call is no refused one
-
-pub opened_not : (n : ℕ) → O.TheVariants.Done ≡ O.TheVariants.Refused n → ⊥
-opened_not n e = let z : ◌≡◌ {A = ℕ} 0 1 = cc in omega arith
-
-pub lost_not : (m n : ℕ) → C.TheVariants.Lost m ≡ C.TheVariants.Refused n → ⊥
-lost_not m n e = let z : ◌≡◌ {A = ℕ} 0 1 = cc in omega arith
-
-pub confirmed_not : (n : ℕ) → F.TheVariants.Done ≡ F.TheVariants.Refused n → ⊥
-confirmed_not n e = let z : ◌≡◌ {A = ℕ} 0 1 = cc in omega arith
-
-pub octets_not : (m n : ℕ) → R.TheVariants.Octets m ≡ R.TheVariants.Refused n → ⊥
-octets_not m n e = let z : ◌≡◌ {A = ℕ} 0 1 = cc in omega arith
 
 -- ---- no two answers mean the same
 

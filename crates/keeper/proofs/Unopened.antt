@@ -36,4 +36,4 @@ status_only_9 before after desired minimum final d e r not-open says stays =
     ((all.0, stays 9 all.0), all.2)
 
 pub anything_only_9 : AnythingOnly9
-anything_only_9 a r not-open says = one_question _ r (Q.TheVariants.Refused 9) says (sym (unopened_asks_9 _ _ _ _ _ _ not-open))
+anything_only_9 a r not-open says = one_question _ r (Q.TheVariants.Refused 9) says (sym (unopened_asks_9 (words_in a.words) a.numbers a.pdcps a.marks a.starts a.ends not-open))

@@ -3,6 +3,8 @@
 // words: L, base, the reported highest, open or closed, how many runs, how many records. specs/View.antt says how they are read, and
 // specs/Plain.antt which numbers calls leave in them.
 // Each call is judged (the crates keeper_judge and keeper_report) before anything is changed.
+#![tactic(auto)]
+
 ghost use Rattle.std.specs.Prelude.{◌≡◌, true, ◌∷◌, ◌++◌, ℕ, ◌+◌, ◌-◌, ◌≤◌, ◌<◌, min, length, get_or, take, drop};
 ghost use Rattle.basics.specs.Basics.{bit};
 ghost use Rattle.circle.specs.Lengths.{modulus, is_length};
@@ -81,7 +83,7 @@ pub enum Asked {
 }
 
 // What the words say, for those who show a state: slots past a count are no part of it.
-#[derive(Drop)]
+#[derive(Clone, Copy)]
 pub struct Shown {
     pub base: u32,
     pub reported: u32,
@@ -113,7 +115,7 @@ pub fn open(
 ) -> Opened
     ensures words_after { opened_as result (keeper_in numbers.new pdcps.new marks.new starts.new ends.new words.new)
         ≡ opens_into (keeper_in numbers.old pdcps.old marks.old starts.old ends.old words.old) (open_keeper bits number pdcp) }
-    ensures by_index { (n : ℕ) → result ≡ Opened.Refused n → arrays numbers.new pdcps.new marks.new starts.new ends.new words.new
+    ensures unchanged { (n : ℕ) → result ≡ Opened.Refused n → arrays numbers.new pdcps.new marks.new starts.new ends.new words.new
         ≡ arrays numbers.old pdcps.old marks.old starts.old ends.old words.old }
     ensures plain { result ≡ Opened.Done → Plain words.new marks.new }
 {
@@ -143,7 +145,7 @@ pub fn arrive(
 ) -> Counted
     ensures words_after { counted_as result (keeper_in numbers.new pdcps.new marks.new starts.new ends.new words.new)
         ≡ «arrive_of» (keeper_in numbers.old pdcps.old marks.old starts.old ends.old words.old) number pdcp }
-    ensures by_index { (n : ℕ) → result ≡ Counted.Refused n → arrays numbers.new pdcps.new marks.new starts.new ends.new words.new
+    ensures unchanged { (n : ℕ) → result ≡ Counted.Refused n → arrays numbers.new pdcps.new marks.new starts.new ends.new words.new
         ≡ arrays numbers.old pdcps.old marks.old starts.old ends.old words.old }
     ensures plain { Plain words.old marks.old → Plain words.new marks.new }
 {
@@ -172,7 +174,7 @@ pub fn expire(
 ) -> Counted
     ensures words_after { counted_as result (keeper_in numbers.new pdcps.new marks.new starts.new ends.new words.new)
         ≡ «expire_of» (keeper_in numbers.old pdcps.old marks.old starts.old ends.old words.old) mark }
-    ensures by_index { (n : ℕ) → result ≡ Counted.Refused n → arrays numbers.new pdcps.new marks.new starts.new ends.new words.new
+    ensures unchanged { (n : ℕ) → result ≡ Counted.Refused n → arrays numbers.new pdcps.new marks.new starts.new ends.new words.new
         ≡ arrays numbers.old pdcps.old marks.old starts.old ends.old words.old }
     ensures plain { Plain words.old marks.old → Plain words.new marks.new }
 {
@@ -200,7 +202,7 @@ pub fn confirm(
 ) -> Confirmed
     ensures words_after { confirmed_as result (keeper_in numbers.new pdcps.new marks.new starts.new ends.new words.new)
         ≡ «confirm_of» (keeper_in numbers.old pdcps.old marks.old starts.old ends.old words.old) number }
-    ensures by_index { (n : ℕ) → result ≡ Confirmed.Refused n → arrays numbers.new pdcps.new marks.new starts.new ends.new words.new
+    ensures unchanged { (n : ℕ) → result ≡ Confirmed.Refused n → arrays numbers.new pdcps.new marks.new starts.new ends.new words.new
         ≡ arrays numbers.old pdcps.old marks.old starts.old ends.old words.old }
     ensures plain { Plain words.old marks.old → Plain words.new marks.new }
 {
@@ -228,7 +230,7 @@ pub fn status(
 ) -> Frame
     ensures dst_after { reported_as result (keeper_in numbers.new pdcps.new marks.new starts.new ends.new words.new) dst.new
         ≡ «status_of» (keeper_in numbers.old pdcps.old marks.old starts.old ends.old words.old) desired minimum last dst.old }
-    ensures by_index { (n : ℕ) → result ≡ Frame.Refused n → arrays numbers.new pdcps.new marks.new starts.new ends.new words.new
+    ensures unchanged { (n : ℕ) → result ≡ Frame.Refused n → arrays numbers.new pdcps.new marks.new starts.new ends.new words.new
         ≡ arrays numbers.old pdcps.old marks.old starts.old ends.old words.old }
     ensures plain { Plain words.old marks.old → Plain words.new marks.new }
 {

@@ -1,5 +1,6 @@
--- The machine's judgement of an arrival, from the tests that the engine makes in the same order.
+-- The machine's judgement of an arrival by its place, from the tests that the engine makes in the same order.
 -- Assumes nothing.
+use Rattle.std.specs.Prelude.{if◌then◌else◌}
 use mathlib.Core.Path.{◌≡◌, sym, ◌∙◌, ap, ap₂}
 use mathlib.Core.Bool.{true, false}
 use mathlib.Core.List.{List}
@@ -8,40 +9,16 @@ use lib.Dec.{ltb, leb}
 use lib.ListN.{length, length-map}
 use borrow.Author.Tests.{lt-ltb, le-ltb, lt-leb, le-leb}
 use Rattle.circle.specs.Circle.{forward}
-use Rattle.circle.specs.Sides.{Side, lies}
-use Rattle.circle.specs.Lengths.{pdcps, length_in}
-use Rattle.basics.specs.Basics.{if◌then◌else◌}
 use Rattle.frame_layout.specs.Frames.{Range, starts_of}
 use Rattle.bearer.specs.Bearer.{After, refusing, answering, most_runs, most_records}
 use Rattle.bearer.specs.Losses.{ahead_of, bears_before, place_in, floor_behind, size_of}
-use Rattle.bearer.specs.Keeper.{Keeper, Record, numbers_of, runs_after, given_up, limit_of, base_arrived, arrived, arrive_at, arrive_on, arrive_by, arrive}
+use Rattle.bearer.specs.Keeper.{Keeper, Record, numbers_of, runs_after, given_up, limit_of, base_arrived, arrived, arrive_at, arrive_on}
 use Rattle.bearer.proofs.Lists.Mapped.{front_within}
 use Rattle.keeper_state.specs.declared.Words.{Words}
 use Rattle.keeper_judge.specs.declared.Losses.{Losses}
-use Rattle.keeper_state.specs.State.{is_open, modulus_in, state_of}
+use Rattle.keeper_state.specs.State.{modulus_in, state_of}
 use Rattle.keeper_judge.specs.Judgements.{Losing, AcceptsArrival}
 use Rattle.keeper_judge.proofs.Given.{same_outcome}
-
--- ---- 9, 10, 10, 18, 11
-
-module _ (w : Words) (runs : List Range) (records : List Record) (n p : ℕ) where
-  abbrev state : Keeper
-  state = state_of w runs records
-
-  pub closed_arrival : is_open w.opened ≡ false → arrive state n p ≡ refusing 9 state
-  closed_arrival h = rw h
-
-  module _ (opened : is_open w.opened ≡ true) where
-    pub bad_number : modulus_in w ≤ n → arrive state n p ≡ refusing 10 state
-    bad_number h = rw (opened, le-ltb n (modulus_in w) h)
-
-    module _ (good : n < modulus_in w) where
-      pub bad_pdcp : pdcps (length_in w.bits) ≤ p → arrive state n p ≡ refusing 10 state
-      bad_pdcp h = rw (opened, lt-ltb n (modulus_in w) good, le-ltb p (pdcps (length_in w.bits)) h)
-
-      -- by how it lies to base
-      pub by_side : p < pdcps (length_in w.bits) → (s : Side) → lies (modulus_in w) w.base n ≡ s → arrive state n p ≡ arrive_by state n p s
-      by_side fits s e = rw (opened, lt-ltb n (modulus_in w) good, lt-ltb p (pdcps (length_in w.bits)) fits, e)
 
 -- ---- 12, 13, 14, 15
 
@@ -65,8 +42,8 @@ module _ (w : Words) (runs : List Range) (records : List Record) (ns ss : List �
     module _ (near : floor_behind (modulus_in w) w.base ss ns + d < modulus_in w / 2) where
       in_span : judged
           ≡ (if ltb most_runs (length (runs_after (state_of w runs records) (limit_of d))) then refusing 14 (state_of w runs records) else
-          if leb most_records (length records) then refusing 15 (state_of w runs records) else
-          answering (size_of (given_up (state_of w runs records) (limit_of d))) (arrived (state_of w runs records) n p place d))
+          (if leb most_records (length records) then refusing 15 (state_of w runs records) else
+          answering (size_of (given_up (state_of w runs records) (limit_of d))) (arrived (state_of w runs records) n p place d)))
       in_span = at_place ∙ rw (en, es, new, lt-leb (modulus_in w / 2) (floor_behind (modulus_in w) w.base ss ns + d) near)
 
       -- what it gives up

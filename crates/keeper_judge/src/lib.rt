@@ -1,5 +1,7 @@
 // What an arrival and an expiry on the secondary's end answer and change, judged before anything is changed. The state is lent to be read
 // (the crate keeper_state). specs/Judgements.antt says what a judgement means.
+#![tactic(auto)]
+
 ghost use Rattle.std.specs.Prelude.{◌≡◌, List, ℕ, ◌+◌, ◌^◌, ◌≤◌, ◌<◌, length, not};
 ghost use Rattle.basics.specs.Basics.{bit, ◌and◌};
 ghost use Rattle.circle.specs.Lengths.{modulus};
@@ -16,7 +18,7 @@ const WINDOW: u32 = 256;
 
 // What is given up below the distance `limit` from base: how many numbers, how many runs are listed then, and whether the
 // first new run joins the last listed one. The records from `from` on lie at or past base (not asked where `limit` is 0).
-#[derive(Drop)]
+#[derive(Clone, Copy)]
 pub struct Losses {
     pub from: usize,
     pub limit: u32,

@@ -1,7 +1,6 @@
 -- What passes over a list of numbers tell and write of gaps, one number at a time.
 -- Assumes nothing.
-use Rattle.std.specs.Prelude.{List, [], ◌∷◌, ℕ, suc, ◌+◌, ◌-◌, eqb, length}
-use Rattle.basics.specs.Basics.{if◌then◌else◌}
+use Rattle.std.specs.Prelude.{List, [], ◌∷◌, ℕ, suc, ◌+◌, ◌-◌, eqb, length, if◌then◌else◌}
 use Rattle.bearer.specs.Losses.{Gap, size_of, outside}
 use Rattle.keeper_loss.specs.declared.GivenUp.{GivenUp}
 

@@ -1,5 +1,7 @@
 // Where numbers lie as seen from base, and what is given up below a distance from it: passes over a lent list of numbers.
 // Numbers are of the short form (modulo 2^16) or the long one (modulo 2^24); distances are forward from base.
+#![tactic(auto)]
+
 ghost use Rattle.std.specs.Prelude.{◌≡◌, ◌+◌, ◌-◌, ◌^◌, ◌<◌, max, length, set};
 ghost use Rattle.std.proofs.lemmas.List.Edits.{sets};
 ghost use Rattle.circle.specs.Lengths.{modulus as «modulus_of»};

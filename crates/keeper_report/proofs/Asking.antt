@@ -1,11 +1,11 @@
 -- Whether there is anything to say, by the counts of runs and records and the first mark.
 -- Assumes nothing.
 use mathlib.Core.Path.{◌≡◌, refl}
-use mathlib.Core.Bool.{true, false}
+use mathlib.Core.Bool.{true}
 use mathlib.Core.List.{List, [], ◌∷◌}
-use Prim.Native.Nat.{ℕ, ◌<◌}
+use Prim.Native.Nat.{◌<◌}
 use native.Mathlib.Omega.{arith}
-use lib.ListN.{length, get_or, take}
+use lib.ListN.{length, get_or}
 use Rattle.frame_layout.specs.Frames.{Range}
 use Rattle.bearer.specs.Keeper.{Record, no_record, news}
 
@@ -19,8 +19,3 @@ pub first_news : (runs : List Range) (records : List Record) → length runs ≡
 first_news [] [] e = refl
 first_news [] (r ∷ rs) e = refl
 first_news (run ∷ runs) records e = absurd (omega arith)
-
--- and where none is held either, there is nothing
-pub none_news : (runs : List Range) (records : List Record) → length runs ≡ 0 → (n : ℕ) → n ≡ 0 → news runs (take n records) ≡ false
-none_news [] records e n z = rw z refl
-none_news (run ∷ runs) records e n z = absurd (omega arith)

@@ -1,4 +1,4 @@
--- The machine's judgement of a confirm, from the tests that the engine makes in the same order.
+-- The machine's judgement of a confirm by where the number stands, from the tests that the engine makes in the same order.
 -- Assumes nothing.
 use mathlib.Core.Path.{◌≡◌, ◌∙◌, ap}
 use mathlib.Core.Bool.{true, false}
@@ -6,7 +6,7 @@ use mathlib.Core.List.{List}
 use Prim.Native.Nat.{ℕ, ◌≤◌, ◌<◌}
 use native.Mathlib.Omega.{arith}
 use lib.ListN.{length, get_or, length-map}
-use borrow.Author.Tests.{lt-ltb, le-ltb, lt-leb, le-leb}
+use borrow.Author.Tests.{lt-ltb, lt-leb, le-leb}
 use Rattle.frame_layout.specs.Frames.{Range}
 use Rattle.bearer.specs.Bearer.{refusing}
 use Rattle.bearer.specs.Losses.{before}
@@ -19,13 +19,7 @@ module _ (w : Words) (runs : List Range) (records : List Record) (n : ℕ) where
   abbrev state : Keeper
   state = state_of w runs records
 
-  pub closed_confirm : is_open w.opened ≡ false → confirm state n ≡ refusing 9 state
-  closed_confirm h = rw h
-
   module _ (opened : is_open w.opened ≡ true) where
-    pub no_number : modulus_in w ≤ n → confirm state n ≡ refusing 10 state
-    no_number h = rw (opened, le-ltb n (modulus_in w) h)
-
     -- by where it stands among the numbers held
     module _ (good : n < modulus_in w) (ns : List ℕ) (seen : numbers_of records ≡ ns) (at : ℕ) (at-is : at ≡ index_of n ns) where
       pub nowhere : length ns ≤ at → confirm state n ≡ refusing 16 state
@@ -34,9 +28,6 @@ module _ (w : Words) (runs : List Range) (records : List Record) (n : ℕ) where
       module _ (found : at < length ns) where
         at_place : confirm state n ≡ confirm_at state n at
         at_place = rw (opened, lt-ltb n (modulus_in w) good, seen, ← at-is, lt-leb (length ns) at found)
-
-        pub not_before : before (modulus_in w) w.base n ≡ false → confirm state n ≡ refusing 16 state
-        not_before h = at_place ∙ rw h
 
         module _ (past : before (modulus_in w) w.base n ≡ true) where
           pub marked_already : (get_or records at no_record).confirmed ≡ true → confirm state n ≡ refusing 16 state

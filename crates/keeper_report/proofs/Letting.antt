@@ -1,5 +1,6 @@
 -- The machine's judgement of a status, and what it lets go, one record at a time.
 -- Assumes nothing.
+use Rattle.std.specs.Prelude.{if◌then◌else◌}
 use mathlib.Core.Path.{◌≡◌, refl, ◌∙◌, ap}
 use mathlib.Core.Bool.{Bool, true, false}
 use mathlib.Core.List.{List, [], ◌∷◌}
@@ -9,7 +10,7 @@ use native.Mathlib.Numerals.{add-one}
 use lib.Dec.{ltb}
 use lib.ListN.{length, get_or, drop}
 use lib.Seq.{drop-cons}
-use Rattle.basics.specs.Basics.{if◌then◌else◌, ◌and◌, is_set}
+use Rattle.basics.specs.Basics.{◌and◌, is_set}
 use Rattle.frame_layout.specs.Frames.{Range, starts_of, most_ranges, write_status}
 use Rattle.bearer.specs.Losses.{goes_before}
 use Rattle.bearer.specs.Keeper.{Keeper, Record, no_record, run_with, let_go, highest_of, unreported, status_now, reported_as, status}
@@ -18,14 +19,11 @@ use Rattle.keeper_state.specs.State.{is_open, modulus_in, state_of, records_of}
 use Rattle.keeper_report.specs.Reports.{gone_of, goes, highest_at}
 use Rattle.keeper_state.proofs.Records.{record_of, record_at_lem, records_count}
 
--- ---- 9, 22
+-- ---- 22
 
 module _ (w : Words) (runs : List Range) (records : List Record) (final : Bool) (desired minimum : ℕ) (d : List ℕ) where
   abbrev state : Keeper
   state = state_of w runs records
-
-  pub closed_status : is_open w.opened ≡ false → status state desired minimum final d ≡ unreported 9 state d
-  closed_status h = rw h
 
   module _ (opened : is_open w.opened ≡ true) where
     pub left_out_lem : final and ltb most_ranges (length runs) ≡ true → status state desired minimum final d ≡ unreported 22 state d

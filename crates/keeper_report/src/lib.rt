@@ -1,5 +1,7 @@
 // What a confirm and a status on the secondary's end answer and change, judged before anything is changed, and whether a status would have
 // anything to say. The state is lent to be read (the crate keeper_state). specs/Reports.antt says what a judgement means.
+#![tactic(auto)]
+
 ghost use Rattle.std.specs.Prelude.{◌≡◌, List, ℕ, ◌≤◌, ltb, length, take, drop};
 ghost use Rattle.basics.specs.Basics.{is_set, ◌and◌};
 ghost use Rattle.circle.specs.Lengths.{modulus};
@@ -172,6 +174,7 @@ fn last_of(numbers: &[u32], count: usize, other: u32) -> u32
 }
 
 // Whether a record may go.
+#[tactic(auto, using(crate::proofs::LeftOut::none_left_out))]
 fn may_go(starts: &[u32], long: bool, number: u32, mark: u32) -> bool
     ensures { result ≡ goes_before (modulus long) (drop most_ranges starts.now) number (is_set mark) }
 {

@@ -1,4 +1,6 @@
 // Numbers kept in order at the front of an array: one put in between others, and some taken off the front.
+#![tactic(auto)]
+
 ghost use Rattle.std.specs.Prelude.{◌≡◌, ◌∷◌, ◌++◌, ◌-◌, length, take, drop};
 
 // Puts v at place i: what stood there and behind it moves one up, and the last falls out. Past the end nothing changes.

@@ -1,5 +1,7 @@
 // How a state of the secondary's end is held: words by name, and lent arrays of records in sending order (number, PDCP number, mark of
 // confirmation) and of listed runs (start, end). specs/State.antt says how they are read.
+#![tactic(auto)]
+
 ghost use Rattle.std.specs.Prelude.{◌≡◌, min, length};
 ghost use Rattle.bearer.specs.Bearer.{most_runs, most_records};
 ghost use Rattle.keeper_state.specs.State.{is_open as «is_open_of», opened_word as «opened_word_of», HeldSizes, ListedSizes};
@@ -17,7 +19,7 @@ pub type RunArray = [u32; MOST_RUNS];
 const OPEN: u32 = 0x6f70656e;
 
 // The words: L, base, the reported highest, whether the end is open, how many runs are listed and how many records held.
-#[derive(Drop)]
+#[derive(Clone, Copy)]
 pub struct Words {
     pub bits: u32,
     pub base: u32,
