@@ -1,11 +1,13 @@
 // The master's ledger (MeNB end): open, send, accepting a status, take, room. The state is a struct by value; its entries stand
 // in sending order from slot 0 on (the crate ledger_entries). specs/View.antt says how a state and the answers are read.
+#![tactic(auto)]
+
 ghost use Rattle.std.specs.Prelude.{◌≡◌, ◌≤◌};
 ghost use Rattle.basics.specs.Basics.{refused, alike};
 ghost use Rattle.circle.specs.Lengths.{is_long, length_in};
 ghost use Rattle.bearer.specs.Bearer.{most_size};
 ghost use Rattle.bearer.specs.Ledger.{fresh as «fresh_of», open_ledger, is_size as «is_size_of», send as «send_of», accept as «accept_of», take_oldest, mark_lost, accept_status as «accept_status_of», accept_marked, raised, kept_room};
-ghost use Rattle.frame_reader.specs.Answers.{cursorOf, Held};
+ghost use Rattle.frame_reader.specs.Answers.{cursor_of, Held};
 ghost use Rattle.ledger.specs.View.{ledger_in, opened_as, sent_as, accepted_as, taken_as, beside, opens};
 ghost use Rattle.ledger.specs.Steps.{follows_from, status_in};
 
@@ -22,7 +24,7 @@ const MOST_OCTETS: u32 = 8388608;
 // The master's end: the entries and how many they are, L, the next X2-U number, the highest last accepted, the last PDCP
 // number sent, whether it is closed, both sizes of the last status, the sizes of all waiting entries added up, and where the
 // oldest waiting entry stands (behind all where none waits).
-#[derive(Drop)]
+#[derive(Clone, Copy)]
 pub struct Ledger {
     pub entries: [Entry; MOST_ENTRIES],
     pub count: usize,
@@ -255,7 +257,7 @@ fn own_form(long: bool, bits: u32) -> bool
 
 // The ranges and the highest of a status of the bearer's form: 33, 34, or the counts.
 fn apply(l: Ledger, frame: &[u8], head: Head) -> Accepting
-    requires { Held frame.now (cursorOf head) × (head.long ≡ is_long (length_in l.bits)) }
+    requires { Held frame.now (cursor_of head) × (head.long ≡ is_long (length_in l.bits)) }
     ensures { beside (accepted_as result.answer) (ledger_in result.ledger)
         ≡ accept_marked (ledger_in l) (status_in frame.now head) (mark_lost (ledger_in l).bits (ledger_in l).entries (status_in frame.now head).ranges) }
 {
@@ -295,7 +297,7 @@ fn apply(l: Ledger, frame: &[u8], head: Head) -> Accepting
 
 // A status of either form: 31, 32, and then its ranges and its highest.
 fn accept_status(l: Ledger, frame: &[u8], head: Head) -> Accepting
-    requires { Held frame.now (cursorOf head) }
+    requires { Held frame.now (cursor_of head) }
     ensures { beside (accepted_as result.answer) (ledger_in result.ledger) ≡ «accept_status_of» (ledger_in l) (status_in frame.now head) }
 {
     if !own_form(head.long, l.bits) {

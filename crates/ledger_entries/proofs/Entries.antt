@@ -5,7 +5,7 @@ use mathlib.Core.List.{List, [], ◌∷◌, ◌++◌, map}
 use Prim.Native.Nat.{ℕ, zero, suc, ◌+◌, ◌≤◌, ◌<◌, min}
 use native.Mathlib.Omega.{arith}
 use lib.ListN.{length, get_or, set, take, drop, length-map, length-set, get_or-map}
-use lib.Seq.{length-take-le, take-suc, drop-cons, get_or-take, take-set-lt, take-suc-set, take-take}
+use lib.Seq.{length-take-le, take-suc, drop-cons, get_or-take, take-set-lt, take-suc-set}
 use Rattle.bearer.specs.Bearer.{most_entries}
 use Rattle.bearer.specs.Ledger.{Entry as Noted}
 use Rattle.ledger_entries.specs.declared.Entry.{Entry}
@@ -46,12 +46,6 @@ module _ (es : List Entry) (count : ℕ) (full : length es ≡ most_entries) whe
 -- a store to a slot
 pub stored : (es : List Entry) (count i : ℕ) (e : Entry) → i < min count most_entries → held_in (set es i e) count ≡ set (held_in es count) i (entry_in e)
 stored es count i e h = ap (take (min count most_entries)) (set_map entry_in es i e) ∙ take-set-lt (min count most_entries) (map entry_in es) i (entry_in e) h
-
--- the first of them
-pub first_held : (es : List Entry) (count k : ℕ) → k ≤ min count most_entries → take k (held_in es count) ≡ held_in es k
-first_held es count k h =
-    let least : min k most_entries ≡ k = omega arith in
-    rw least (take-take k (min count most_entries) (map entry_in es) h)
 
 -- ---- a pass over the entries
 

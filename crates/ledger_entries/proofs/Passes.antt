@@ -1,17 +1,18 @@
 -- The passes over entries that look, free and take, one entry at a time: what is done so far, and what is still to be
 -- done, is what the whole pass comes to.
 -- Assumes nothing.
+use Rattle.std.specs.Prelude.{if◌then◌else◌}
 use mathlib.Core.Path.{◌≡◌, refl, sym, ◌∙◌, ap}
 use mathlib.Core.Bool.{Bool, true, false, not}
-use mathlib.Core.List.{List, [], ◌∷◌, ◌++◌, append_assoc, append-nil}
+use mathlib.Core.List.{List, [], ◌∷◌, ◌++◌, append_assoc}
 use Prim.Native.Nat.{ℕ, suc, ◌+◌, ◌-◌, ◌≤◌, ◌<◌}
 use native.Mathlib.Numerals.{add-one}
-use native.Mathlib.Nat.{add-zero, zero-add}
+use native.Mathlib.Nat.{add-zero}
 use native.Mathlib.Omega.{arith}
 use lib.Dec.{eqb}
-use lib.ListN.{length, get_or, set, take, drop, drop_of_length-le}
-use lib.Seq.{take_all, take-suc-set, drop-set-lt}
-use Rattle.basics.specs.Basics.{if◌then◌else◌, ◌and◌, ◌or◌}
+use lib.ListN.{get_or, set, take, drop}
+use lib.Seq.{take-suc-set, drop-set-lt}
+use Rattle.basics.specs.Basics.{◌and◌, ◌or◌}
 use Rattle.bearer.specs.Ledger.{Entry, Passed, waits, waiting_at, waits_for, take_at, kept, counted, free_through}
 use Rattle.ledger_entries.specs.declared.Entry.{Entry as Slot}
 use Rattle.ledger_entries.specs.View.{entry_in, held_in}
@@ -58,10 +59,6 @@ module _ {place : List (Entry Unit) → ℕ} {test : Entry Unit → Bool} (finds
     pub found_here : test e ≡ true → i + place (drop i xs) ≡ i
     found_here b = rw (at.rest, finds.first e (drop (suc i) xs), b, add-zero i)
 
-  -- all were passed
-  pub found_none : (xs : List (Entry Unit)) (i : ℕ) → length xs ≤ i → i + place (drop i xs) ≡ i
-  found_none xs i all = rw (drop_of_length-le xs all, finds.none, add-zero i)
-
 -- ---- moving down what is kept
 
 -- the entries with i passed and k of them kept, which now stand in front
@@ -81,22 +78,11 @@ moved {es} {count} {n} {i} r inside k below d =
     moves_down (here r inside d) k below
     ∙ ap (λ (xs : List (Entry Unit)). keeping xs (k + 1) (i + 1)) (sym (stored es count k (get_or es i d) (omega arith)))
 
--- all were passed
-pub closed_up : (xs : List (Entry Unit)) (k i : ℕ) → length xs ≤ i → keeping xs k i ≡ take k xs
-closed_up xs k i all = rw (drop_of_length-le xs all) (append-nil (take k xs))
-
 -- ---- freeing
 
 -- the pass with i entries passed and k of them kept, which now stand in front
 abbrev pub freeing : ℕ → List (Entry Unit) → ℕ → ℕ → Bool → Passed Unit
 freeing h xs k i going = in_front (i - k) (take k xs) (free_while going h (drop i xs))
-
--- before the first entry
-pub freeing_none : (h : ℕ) (xs : List (Entry Unit)) (going : Bool) → freeing h xs 0 0 going ≡ free_while going h xs
-freeing_none h xs going = nothing (free_while going h xs)
-  where
-    nothing : (p : Passed Unit) → in_front (0 - 0) [] p ≡ p
-    nothing p = rw (zero-add p.count)
 
 -- an entry is kept
 keeps_one : (h : ℕ) (going : Bool) (e : Entry Unit) (ys : List (Entry Unit)) → (going and waits e) ≡ false → free_while going h (e ∷ ys) ≡ kept e (free_while going h ys)
@@ -139,14 +125,3 @@ pub stays_stored : (h : ℕ) {es : List Slot} {count n i : ℕ} (r : Reached es 
 stays_stored h {es} {count} {n} {i} r inside k below going d b =
     stays h (here r inside d) k below going b
     ∙ ap (λ (xs : List (Entry Unit)). freeing h xs (k + 1) (i + 1) going) (sym (stored es count k (get_or es i d) (omega arith)))
-
--- all were passed
-pub freed_all : (h : ℕ) (xs : List (Entry Unit)) (k i : ℕ) (going : Bool) → length xs ≤ i → freeing h xs k i going ≡ record { entries = take k xs; count = i - k }
-freed_all h xs k i true all = rw (drop_of_length-le xs all, append-nil (take k xs), add-zero (i - k))
-freed_all h xs k i false all = rw (drop_of_length-le xs all, append-nil (take k xs), add-zero (i - k))
-
--- ---- taking one out
-
--- no entry stands at the place
-pub nothing_out : (xs : List (Entry Unit)) (i : ℕ) → length xs ≤ i → take i xs ++ drop (i + 1) xs ≡ xs
-nothing_out xs i none = rw (take_all i xs none, drop_of_length-le xs {i = i + 1} (omega arith)) (append-nil xs)

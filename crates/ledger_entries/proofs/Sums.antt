@@ -1,14 +1,14 @@
 -- A sum of waiting sizes beside entries that change: as long as it is lowered by each size that waits no longer, it is what the machine leaves.
 -- Assumes nothing.
+use Rattle.std.specs.Prelude.{if◌then◌else◌}
 use mathlib.Core.Path.{◌≡◌, sym, ◌∙◌, ap}
 use mathlib.Core.Bool.{true}
 use mathlib.Core.List.{List, ◌∷◌, ◌++◌, [], append_assoc}
-use Prim.Native.Nat.{ℕ, suc, ◌+◌, ◌-◌, ◌≤◌, ◌<◌}
+use Prim.Native.Nat.{ℕ, suc, ◌+◌, ◌-◌, ◌<◌}
 use native.Mathlib.Numerals.{add-one}
 use native.Mathlib.Omega.{arith}
 use lib.ListN.{length, set, take, drop, take-append-drop}
 use lib.Seq.{take-suc-set, drop-set-lt}
-use Rattle.basics.specs.Basics.{if◌then◌else◌}
 use Rattle.bearer.specs.Ledger.{Entry, waits, as_lost, waiting_sizes}
 use Rattle.bearer.proofs.Master.Sums.{sizes_without}
 use Rattle.ledger_entries.specs.Steps.{Lowers}

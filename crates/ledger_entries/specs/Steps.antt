@@ -1,7 +1,6 @@
 -- What the passes over entries leave, in the machine's words.
 -- Assumes nothing.
-use Rattle.std.specs.Prelude.{◌≡◌, Bool, List, ℕ, ◌-◌, ◌≤◌, min}
-use Rattle.basics.specs.Basics.{if◌then◌else◌}
+use Rattle.std.specs.Prelude.{◌≡◌, Bool, List, ℕ, ◌-◌, ◌≤◌, min, if◌then◌else◌}
 use Rattle.bearer.specs.Bearer.{most_entries}
 use Rattle.bearer.specs.Ledger as machine
 use Rattle.ledger_entries.specs.declared.Freed.{Freed}

@@ -1,7 +1,9 @@
 // Packets that went out, in an array of entries, and the passes that the master's calls make over it. Entries stand in sending order
 // from slot 0 on, as many as a count says; a count past the end is a full array. specs/View.antt says how they are read.
-ghost use Rattle.std.specs.Prelude.{◌≡◌, not, ◌++◌, ◌+◌, ◌-◌, ◌≤◌, min, eqb, take, drop};
-ghost use Rattle.basics.specs.Basics.{if◌then◌else◌, ◌and◌, ◌or◌};
+#![tactic(auto)]
+
+ghost use Rattle.std.specs.Prelude.{◌≡◌, not, ◌++◌, ◌+◌, ◌-◌, ◌≤◌, min, eqb, take, drop, if◌then◌else◌};
+ghost use Rattle.basics.specs.Basics.{◌and◌, ◌or◌};
 ghost use Rattle.bearer.specs.Bearer.{most_entries};
 ghost use Rattle.bearer.specs.Ledger.{new_entry as «new_entry_of», waits as «waits_of», waiting_at, as_lost as «as_lost_of», waits_for, take_at, place_without as «place_without_of»};
 ghost use Rattle.ledger_entries.specs.View.{entry_in, held_in};
@@ -11,7 +13,7 @@ ghost use Rattle.ledger_entries.specs.Steps.{freed_of, free_while, Lowers};
 pub const MOST_ENTRIES: usize = 512;
 
 // What became of a packet that is still held.
-#[derive(Drop)]
+#[derive(Clone, Copy)]
 pub enum Fate {
     Waiting,
     Lost,
@@ -19,7 +21,7 @@ pub enum Fate {
 
 // A packet that went out: its two numbers, the PDU's size in octets, and its fate. A size has 16 bits, so that an entry has 12
 // octets as it had without one: a send copies all of them.
-#[derive(Drop)]
+#[derive(Clone, Copy)]
 pub struct Entry {
     pub number: u32,
     pub pdcp: u32,

@@ -1,4 +1,6 @@
 // A status's ranges applied to the entries that the master holds: one pass over the entries, in step with one over the frame.
+#![tactic(auto)]
+
 ghost use Rattle.std.specs.Prelude.{◌≡◌, false, ℕ};
 ghost use Rattle.circle.specs.Lengths.{is_long};
 ghost use Rattle.bearer.specs.Ledger.{mark_lost};

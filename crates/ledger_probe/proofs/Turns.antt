@@ -1,7 +1,7 @@
 -- Turns one after another: the first of those that are left, and those behind it.
 -- Assumes nothing.
-use Rattle.std.proofs.Common.{◌≡◌, ℕ, suc, ◌+◌, ◌-◌, ◌%◌, ◌^◌, ◌<◌, ◌≤◌, sym, ap, ◌∙◌, sub-eq-zero_of_le, add-one, arith}
-use native.Mathlib.Nat.{sub-zero, sub-suc, suc-pred-eq_of_pos, sub-pos_iff_lt}
+use Rattle.std.proofs.Common.{◌≡◌, ℕ, suc, ◌+◌, ◌-◌, ◌%◌, ◌^◌, ◌<◌, sym, ap, ◌∙◌, add-one, arith}
+use native.Mathlib.Nat.{sub-suc, suc-pred-eq_of_pos, sub-pos_iff_lt}
 use Rattle.basics.specs.Basics.{Outcome}
 use Rattle.bearer.specs.Bearer.{After}
 use Rattle.bearer.specs.Ledger.{Ledger}
@@ -13,23 +13,6 @@ one_more : (n i : ℕ) → i < n → n - i ≡ suc (n - (i + 1))
 one_more n i lt = sym (ap (λ (k : ℕ). suc (n - k)) (add-one i) ∙ ap suc (sub-suc n i) ∙ suc-pred-eq_of_pos (sub-pos_iff_lt.1 lt))
 
 module _ {A : Type 0} (turn : Turn A) (n : ℕ) where
-  -- before the first turn all are left
-  module _ {l first : Ledger Unit} (e : l ≡ first) where
-    pub left_all : left turn l 0 (n - 0) ≡ left turn first 0 n
-    left_all = ap (left turn l 0) (sub-zero n) ∙ ap (λ (s : Ledger Unit). left turn s 0 n) e
-
-    pub sum_all : (value : A → ℕ) → (0 + total value turn l 0 (n - 0)) % 2 ^ 32 ≡ total value turn first 0 n % 2 ^ 32
-    sum_all value =
-        omega (arith, ap (total value turn l 0) (sub-zero n) ∙ ap (λ (s : Ledger Unit). total value turn s 0 n) e)
-
-  -- past the last turn a ledger stays
-  pub left_none : (l : Ledger Unit) (i : ℕ) → n ≤ i → left turn l i (n - i) ≡ l
-  left_none l i all = ap (left turn l i) (sub-eq-zero_of_le all)
-
-  -- and nothing is added
-  pub total_none : (value : A → ℕ) (l : Ledger Unit) (i : ℕ) → n ≤ i → total value turn l i (n - i) ≡ 0
-  total_none value l i all = ap (total value turn l i) (sub-eq-zero_of_le all)
-
   -- turn i was made, and left this
   module _ {a : Outcome A} {l after : Ledger Unit} {i : ℕ} (made : beside a after ≡ turn i l) (more : i < n) where
     pub left_more : left turn after (i + 1) (n - (i + 1)) ≡ left turn l i (n - i)

@@ -1,8 +1,8 @@
 -- What the rig's loops add up to, over the master's machine (the crate bearer, Ledger.antt): calls one after another, each on
 -- the ledger that the one before left.
 -- Assumes nothing.
-use Rattle.std.specs.Prelude.{ℕ, zero, suc, ◌+◌, ◌-◌, ◌%◌, ◌^◌, min, List, nat_eq}
-use Rattle.basics.specs.Basics.{if◌then◌else◌, Outcome, done, refused}
+use Rattle.std.specs.Prelude.{ℕ, zero, suc, ◌+◌, ◌-◌, ◌%◌, ◌^◌, min, List, nat_eq, if◌then◌else◌}
+use Rattle.basics.specs.Basics.{Outcome, done, refused}
 use Rattle.bearer.specs.Bearer.{After, answering, most_entries}
 use Rattle.bearer.specs.Ledger.{Ledger, Accepted, changed, open_ledger, send, accept, kept_room}
 use Rattle.ledger.specs.View.{opens}

@@ -1,6 +1,8 @@
 // A rig for measuring the ledger, and no part of the product: a ledger holds enums, which can't cross to C, so the loops that are
 // timed stand on this side. specs/Rig.antt says what each adds up to: an answer hangs on every answer inside, so that no call
 // can be left out by the compiler.
+#![tactic(auto)]
+
 ghost use Rattle.std.specs.Prelude.{◌≡◌, ◌+◌, ◌%◌, ◌^◌, ◌<◌, min};
 ghost use Rattle.bearer.specs.Bearer.{most_entries};
 ghost use Rattle.ledger.specs.View.{ledger_in, sent_as, accepted_as};
