@@ -1,5 +1,2 @@
 pub mod Answers
-pub mod Stored
-pub mod Places
 pub mod Statuses
-pub mod Kept

@@ -1,10 +1,9 @@
--- What was read, by its type: the answer, and of a status the cursor before its ranges.
+-- What was read, by its type: the answer, and of a status its ranges.
 -- Assumes nothing.
 use mathlib.Core.Path.{◌≡◌, refl, sym, ◌∙◌, ap}
 use mathlib.Core.Bool.{Bool, true, false}
 use mathlib.Core.List.{List, [], ◌∷◌}
-use Prim.Native.Nat.{ℕ, ◌≤◌, ◌<◌}
-use native.Mathlib.Omega.{arith}
+use Prim.Native.Nat.{ℕ}
 use lib.IntN.{pos}
 use lib.ListN.{length, get_or}
 use Rattle.basics.specs.Basics.{bit}
@@ -12,12 +11,11 @@ use Rattle.frame_layout.specs.Frames.{Status, Reading, data_of, status_of, refus
 use Rattle.frame_layout.proofs.Octets.{length_ranges_at}
 use Rattle.frame_reader.specs.declared.Head.{Head}
 use Rattle.frame_reader.specs.declared.Frame.TheVariants as read
-use Rattle.frame_reader.specs.declared.Cursor.{Cursor}
 use Rattle.frame_reader.specs.Answers.{reading_of, there}
 use Rattle.frame_reader.proofs.Walk.{before, stands, all_there}
 use Rattle.basics.proofs.Apart.{apart}
-use Rattle.c_calls.specs.Boundary.{minus, leaves, type_of, fields_of, ranges_in, begins, words_of}
-use Rattle.c_calls.specs.Looks.{no_type, kind_of, refusal_of, is_status, answer_to, first_of}
+use Rattle.c_calls.specs.Boundary.{type_of, fields_of, ranges_in}
+use Rattle.c_calls.specs.Looks.{kind_of, refusal_of, is_status, answer_to, first_of}
 
 -- the answer is the type or the refusal
 pub told : (r : Reading) → answer_to (kind_of r) (refusal_of r) ≡ type_of r
@@ -57,34 +55,3 @@ unlisted (status_of st) t = by st.long t
     by true t = apart (cc)
     by false t = apart (cc)
 unlisted (refuse n) t = refl
-
--- ---- the first range
-
-module _ (old : List ℕ) where
-  -- of what is refused
-  pub begins_refused : (r : Reading) → no_type ≤ kind_of r → leaves (minus (refusal_of r)) old ≡ begins old r
-  begins_refused (data_of true n) h = absurd (omega arith)
-  begins_refused (data_of false n) h = absurd (omega arith)
-  begins_refused (status_of st) h = by st.long h
-    where
-      by : (b : Bool) → no_type ≤ status_type b → leaves (minus 0) old ≡ begins old (status_of st)
-      by true h = absurd (omega arith)
-      by false h = absurd (omega arith)
-  begins_refused (refuse n) h = refl
-
-  -- of data
-  pub begins_data : (r : Reading) → kind_of r < no_type → is_status (kind_of r) ≡ false → leaves (pos 0) (0 ∷ 0 ∷ 0 ∷ []) ≡ begins old r
-  begins_data (data_of long n) h t = refl
-  begins_data (status_of st) h t = by st.long t
-    where
-      by : (b : Bool) → is_status (status_type b) ≡ false → leaves (pos 0) (0 ∷ 0 ∷ 0 ∷ []) ≡ begins old (status_of st)
-      by true t = apart (cc)
-      by false t = apart (cc)
-  begins_data (refuse n) h t = absurd (omega arith)
-
-  -- of a status
-  pub begins_status : (zeros : List ℕ) (r : Reading) → is_status (kind_of r) ≡ true → (c : Cursor) → c ≡ first_of (kind_of r) (get_or (fields_of zeros r) 5 0) → leaves (pos c.left) (words_of c) ≡ begins old r
-  begins_status zeros (data_of true n) t c e = apart (cc)
-  begins_status zeros (data_of false n) t c e = apart (cc)
-  begins_status zeros (status_of st) t c e = rw (e ∙ first_is st.long st refl)
-  begins_status zeros (refuse n) t c e = apart (cc)

@@ -1,9 +1,9 @@
 -- What the C boundary answers and leaves, by the definitions that the contracts of the crates below it cite.
 -- An answer is one integer: from 0 on what document 01 answers, below 0 a refusal.
 -- Assumes nothing.
-use Rattle.std.specs.Prelude.{Bool, List, [], ◌∷◌, ℕ, ◌-◌, ◌^◌, ltb, ℤ, pos, neg_ℤ, length, get_or}
+use Rattle.std.specs.Prelude.{Bool, List, [], ◌∷◌, ℕ, ◌-◌, ◌^◌, ltb, ℤ, pos, neg_ℤ, length, get_or, if◌then◌else◌}
 use Rattle.std.proofs.lemmas.List.Edits.{sets}
-use Rattle.basics.specs.Basics.{if◌then◌else◌, bit, Outcome, done, refused, is_set}
+use Rattle.basics.specs.Basics.{bit, Outcome, done, refused, is_set}
 use Rattle.frame_layout.specs.Frames as frames
 use Rattle.frame_layout.specs.Frames.{Reading, data_of, status_of, refuse, Written, starts_of, ends_of, data_type, status_type, width, list_at, most_octets}
 use Rattle.bearer.specs.Bearer.{After}
@@ -11,7 +11,7 @@ use Rattle.bearer.specs.Keeper.{Keeper, Reported}
 use Rattle.frame_reader.specs.declared.Cursor.{Cursor}
 use Rattle.frame_reader.specs.declared.Step.{Step}
 use Rattle.frame_reader.specs.declared.Step.TheVariants.{Range, End}
-use Rattle.frame_reader.specs.Answers.{nextIn}
+use Rattle.frame_reader.specs.Answers.{next_in}
 
 -- ---- answers
 
@@ -117,7 +117,7 @@ begins old (refuse n) = leaves (minus n) old
 
 -- the range at a cursor; octets longer than any frame have none
 abbrev pub step_in : List ℕ → Cursor → Step
-step_in s c = if ltb most_octets (length s) then End else nextIn s c
+step_in s c = if ltb most_octets (length s) then End else next_in s c
 
 -- 1, and the cursor behind the range and the range in place of what was there; 0 and no change where none is left
 abbrev pub steps : List ℕ → List ℕ → Step → Left (List ℕ × List ℕ)

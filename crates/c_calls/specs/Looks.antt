@@ -1,7 +1,7 @@
 -- What a look at a frame tells, as numbers: the words in which `look` and the functions beside it speak of what is read.
 -- Assumes nothing.
-use Rattle.std.specs.Prelude.{Bool, ℕ, ltb, eqb, ℤ, pos}
-use Rattle.basics.specs.Basics.{if◌then◌else◌, ◌or◌}
+use Rattle.std.specs.Prelude.{Bool, ℕ, ltb, eqb, ℤ, pos, if◌then◌else◌}
+use Rattle.basics.specs.Basics.{◌or◌}
 use Rattle.frame_layout.specs.Frames.{Reading, data_of, status_of, refuse, data_type, status_type, width, list_at}
 use Rattle.frame_reader.specs.declared.Cursor.{Cursor}
 use Rattle.c_calls.specs.Boundary.{minus}

@@ -1,8 +1,11 @@
 // The C boundary of the secondary's loss keeper, and of reading a frame range by range: one function a call, on numbers, slices
 // and arrays of numbers. An answer from 0 on is document 01's, one below 0 is minus the number of a refusal. A flag or a form is
 // a number, 0 or not 0, since a `bool` that C made is undefined where its octet is neither 0 nor 1. include/x2u.h has C's side.
-// The crate c_frames has the calls on whole frames, an object of their own: the compiler makes one of a function and its caller
-// where it has one caller in the object, and no answer of reader and writer then passes through memory.
+// The crate c_calls_c exports the calls to C under the same names. Those on whole frames are c_frames', an object of their own: the
+// compiler makes one of a function and its caller where it has one caller in the object, and no answer of reader and writer then
+// passes through memory.
+#![tactic(auto)]
+
 ghost use Rattle.std.specs.Prelude.{◌≡◌, [], ◌∷◌, ℕ, ◌≤◌, min, pos, negsuc, ◌-ℤ◌, length};
 ghost use Rattle.basics.specs.Basics.{is_set};
 ghost use Rattle.frame_layout.specs.Frames.{read_frame};
@@ -109,8 +112,7 @@ pub fn first_of(kind: u32, count: u32) -> frame_reader::Cursor
 
 // Reads a frame: its type, 0 to 3. The fields are the X2-U number of data, and of a status the highest PDCP number, the desired
 // size, the minimum size, Final as 0 or 1, and how many ranges, each in a place of its own; a field that the frame hasn't is 0.
-#[unsafe(no_mangle)]
-pub extern "C" fn x2u_read(frame: &[u8], fields: &mut FieldArray) -> i64
+pub fn x2u_read(frame: &[u8], fields: &mut FieldArray) -> i64
     ensures { leaves result fields.new ≡ reads fields.old (read_frame frame.now) }
 {
     let seen = look(frame, fields);
@@ -118,8 +120,7 @@ pub extern "C" fn x2u_read(frame: &[u8], fields: &mut FieldArray) -> i64
 }
 
 // Puts a cursor before the first range of a frame: how many ranges it has, which for data is none.
-#[unsafe(no_mangle)]
-pub extern "C" fn x2u_first_range(frame: &[u8], cursor: &mut CursorArray) -> i64
+pub fn x2u_first_range(frame: &[u8], cursor: &mut CursorArray) -> i64
     ensures { leaves result cursor.new ≡ begins cursor.old (read_frame frame.now) }
 {
     let mut fields = [0; FIELDS];
@@ -137,12 +138,7 @@ pub extern "C" fn x2u_first_range(frame: &[u8], cursor: &mut CursorArray) -> i64
 }
 
 // Takes the range at a cursor: 1, or 0 where none is left.
-#[unsafe(no_mangle)]
-pub extern "C" fn x2u_next_range(
-    frame: &[u8],
-    cursor: &mut CursorArray,
-    range: &mut EndArray,
-) -> i64
+pub fn x2u_next_range(frame: &[u8], cursor: &mut CursorArray, range: &mut EndArray) -> i64
     ensures { leaves result (cursor.new, range.new)
         ≡ steps cursor.old range.old (step_in frame.now («cursor_in_of» cursor.old)) }
 {
@@ -168,8 +164,7 @@ pub extern "C" fn x2u_next_range(
 // ---- the keeper, whose state is six lent arrays
 
 // Opens the end: 0.
-#[unsafe(no_mangle)]
-pub extern "C" fn x2u_keeper_open(
+pub fn x2u_keeper_open(
     numbers: &mut keeper::RecordArray,
     pdcps: &mut keeper::RecordArray,
     marks: &mut keeper::RecordArray,
@@ -182,9 +177,9 @@ pub extern "C" fn x2u_keeper_open(
 ) -> i64
     ensures words_after { leaves result (keeper_in numbers.new pdcps.new marks.new starts.new ends.new words.new)
         ≡ settles (opens_into (keeper_in numbers.old pdcps.old marks.old starts.old ends.old words.old) (open_keeper length number pdcp)) }
-    ensures by_index { (n : ℕ) → result ≡ negsuc n → arrays numbers.new pdcps.new marks.new starts.new ends.new words.new
+    ensures unchanged { (n : ℕ) → result ≡ negsuc n → arrays numbers.new pdcps.new marks.new starts.new ends.new words.new
         ≡ arrays numbers.old pdcps.old marks.old starts.old ends.old words.old }
-    ensures by_index_2 { (n : ℕ) → result ≡ pos n → Plain words.new marks.new }
+    ensures plain { (n : ℕ) → result ≡ pos n → Plain words.new marks.new }
 {
     match keeper::open(
         numbers, pdcps, marks, starts, ends, words, length, number, pdcp,
@@ -195,8 +190,7 @@ pub extern "C" fn x2u_keeper_open(
 }
 
 // Arrival of a number and a PDCP number: how many numbers became lost.
-#[unsafe(no_mangle)]
-pub extern "C" fn x2u_keeper_arrive(
+pub fn x2u_keeper_arrive(
     numbers: &mut keeper::RecordArray,
     pdcps: &mut keeper::RecordArray,
     marks: &mut keeper::RecordArray,
@@ -208,7 +202,7 @@ pub extern "C" fn x2u_keeper_arrive(
 ) -> i64
     ensures words_after { leaves result (keeper_in numbers.new pdcps.new marks.new starts.new ends.new words.new)
         ≡ counts (arrive (keeper_in numbers.old pdcps.old marks.old starts.old ends.old words.old) number pdcp) }
-    ensures by_index { (n : ℕ) → result ≡ negsuc n → arrays numbers.new pdcps.new marks.new starts.new ends.new words.new
+    ensures unchanged { (n : ℕ) → result ≡ negsuc n → arrays numbers.new pdcps.new marks.new starts.new ends.new words.new
         ≡ arrays numbers.old pdcps.old marks.old starts.old ends.old words.old }
     ensures plain { Plain words.old marks.old → Plain words.new marks.new }
 {
@@ -219,8 +213,7 @@ pub extern "C" fn x2u_keeper_arrive(
 }
 
 // Expiry of what is open before a mark: how many numbers became lost.
-#[unsafe(no_mangle)]
-pub extern "C" fn x2u_keeper_expire(
+pub fn x2u_keeper_expire(
     numbers: &mut keeper::RecordArray,
     pdcps: &mut keeper::RecordArray,
     marks: &mut keeper::RecordArray,
@@ -231,7 +224,7 @@ pub extern "C" fn x2u_keeper_expire(
 ) -> i64
     ensures words_after { leaves result (keeper_in numbers.new pdcps.new marks.new starts.new ends.new words.new)
         ≡ counts (expire (keeper_in numbers.old pdcps.old marks.old starts.old ends.old words.old) mark) }
-    ensures by_index { (n : ℕ) → result ≡ negsuc n → arrays numbers.new pdcps.new marks.new starts.new ends.new words.new
+    ensures unchanged { (n : ℕ) → result ≡ negsuc n → arrays numbers.new pdcps.new marks.new starts.new ends.new words.new
         ≡ arrays numbers.old pdcps.old marks.old starts.old ends.old words.old }
     ensures plain { Plain words.old marks.old → Plain words.new marks.new }
 {
@@ -242,8 +235,7 @@ pub extern "C" fn x2u_keeper_expire(
 }
 
 // A number is confirmed: 0.
-#[unsafe(no_mangle)]
-pub extern "C" fn x2u_keeper_confirm(
+pub fn x2u_keeper_confirm(
     numbers: &mut keeper::RecordArray,
     pdcps: &mut keeper::RecordArray,
     marks: &mut keeper::RecordArray,
@@ -254,7 +246,7 @@ pub extern "C" fn x2u_keeper_confirm(
 ) -> i64
     ensures words_after { leaves result (keeper_in numbers.new pdcps.new marks.new starts.new ends.new words.new)
         ≡ settles (confirm (keeper_in numbers.old pdcps.old marks.old starts.old ends.old words.old) number) }
-    ensures by_index { (n : ℕ) → result ≡ negsuc n → arrays numbers.new pdcps.new marks.new starts.new ends.new words.new
+    ensures unchanged { (n : ℕ) → result ≡ negsuc n → arrays numbers.new pdcps.new marks.new starts.new ends.new words.new
         ≡ arrays numbers.old pdcps.old marks.old starts.old ends.old words.old }
     ensures plain { Plain words.old marks.old → Plain words.new marks.new }
 {
@@ -265,8 +257,7 @@ pub extern "C" fn x2u_keeper_confirm(
 }
 
 // A status frame at the front of a buffer: how many octets it has.
-#[unsafe(no_mangle)]
-pub extern "C" fn x2u_keeper_status(
+pub fn x2u_keeper_status(
     numbers: &mut keeper::RecordArray,
     pdcps: &mut keeper::RecordArray,
     marks: &mut keeper::RecordArray,
@@ -280,7 +271,7 @@ pub extern "C" fn x2u_keeper_status(
 ) -> i64
     ensures dst_after { leaves result ((keeper_in numbers.new pdcps.new marks.new starts.new ends.new words.new), dst.new)
         ≡ reports (status (keeper_in numbers.old pdcps.old marks.old starts.old ends.old words.old) desired minimum (is_set last) dst.old) }
-    ensures by_index { (n : ℕ) → result ≡ negsuc n → arrays numbers.new pdcps.new marks.new starts.new ends.new words.new
+    ensures unchanged { (n : ℕ) → result ≡ negsuc n → arrays numbers.new pdcps.new marks.new starts.new ends.new words.new
         ≡ arrays numbers.old pdcps.old marks.old starts.old ends.old words.old }
     ensures plain { Plain words.old marks.old → Plain words.new marks.new }
 {
@@ -302,8 +293,7 @@ pub extern "C" fn x2u_keeper_status(
 }
 
 // Anything to say: 1 for yes, 0 for no.
-#[unsafe(no_mangle)]
-pub extern "C" fn x2u_keeper_anything(
+pub fn x2u_keeper_anything(
     numbers: &keeper::RecordArray,
     pdcps: &keeper::RecordArray,
     marks: &keeper::RecordArray,

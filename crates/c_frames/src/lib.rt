@@ -1,5 +1,7 @@
 // The C boundary of whole frames: reading one with all its ranges in one call, and writing one. Answers, flags and forms are as
 // in the crate c_calls, which has the other calls. These have an object of their own, where reader and writer have one caller each.
+#![tactic(auto)]
+
 ghost use Rattle.std.specs.Prelude.{◌≡◌};
 ghost use Rattle.frame_layout.specs.Frames.{ranges_of, read_frame, write_data, write_status};
 ghost use Rattle.basics.specs.Basics.{is_set};
