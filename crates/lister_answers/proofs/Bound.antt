@@ -1,5 +1,6 @@
 -- No answer is longer than said: 162 ranges of a status are what takes most.
 -- Assumes nothing.
+use Rattle.std.specs.Prelude.{if◌then◌else◌}
 use mathlib.Core.Path.{◌≡◌, refl, ap}
 use mathlib.Core.Bool.{Bool, true, false}
 use mathlib.Core.List.{List, [], ◌∷◌, ◌++◌}
@@ -8,7 +9,7 @@ use native.Mathlib.Omega.{arith}
 use lib.Dec.{ltb, eqb}
 use lib.ListN.{length, length-append}
 use borrow.Author.Tests.{ltb-true}
-use Rattle.basics.specs.Basics.{if◌then◌else◌, bit, all}
+use Rattle.basics.specs.Basics.{bit, all}
 use Rattle.frame_layout.specs.Octets.{field}
 use Rattle.frame_layout.specs.Frames.{width, most_highest, data_type, status_type, Range, Status, Reading, data_of, status_of, refuse, type_in, listed_in, bad_length, count_refused, count_in, fixed_end, list_end, status_in, read_status, read_frame, in_form}
 use Rattle.frame_layout.specs.Trips.{AreOctets, data_frame, status_frame, WritableStatus}

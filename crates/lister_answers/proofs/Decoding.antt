@@ -1,5 +1,6 @@
 -- What a decoded line leaves: the front of the frame's buffer is the frame, and the answer to the line is the frame's.
 -- Assumes nothing.
+use Rattle.std.specs.Prelude.{if◌then◌else◌}
 use mathlib.Core.Path.{◌≡◌, refl, sym, ◌∙◌, ap}
 use mathlib.Core.Bool.{Bool, true, false, not}
 use mathlib.Core.List.{List}
@@ -9,7 +10,7 @@ use borrow.Author.Tests.{ltb-false}
 use lib.Dec.{ltb, eqb}
 use lib.ListN.{length, take, drop}
 use lib.Seq.{sets, sets-eq, length-sets, take-append_seam}
-use Rattle.basics.specs.Basics.{if◌then◌else◌, all}
+use Rattle.basics.specs.Basics.{all}
 use Rattle.frame_layout.specs.Frames.{most_octets, read_frame}
 use Rattle.basics.proofs.Choices.{or_false}
 use Rattle.lister_text.specs.Texts.{ascii}

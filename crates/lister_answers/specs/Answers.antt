@@ -1,8 +1,8 @@
 -- The lister's answer to a line (document 01, its last section): the line in hexadecimal is a frame, and the answer to it is a line of
 -- the frame's fields.
 -- Assumes nothing.
-use Rattle.std.specs.Prelude.{Bool, List, [], ◌∷◌, ◌++◌, ℕ, leb}
-use Rattle.basics.specs.Basics.{if◌then◌else◌, bit}
+use Rattle.std.specs.Prelude.{Bool, List, [], ◌∷◌, ◌++◌, ℕ, leb, if◌then◌else◌}
+use Rattle.basics.specs.Basics.{bit}
 use Rattle.frame_layout.specs.Frames.{data_type, status_type, Reading, data_of, status_of, refuse, read_frame}
 use Rattle.lister_text.specs.Texts.{ascii, line_feed, tab, decimal, parted, ranges_text}
 use Rattle.lister_text.specs.Hexadecimal.{octets_in, unreadable, decoded_into}

@@ -1,9 +1,11 @@
 // The lister's answer to a line (document 01, its last section): the line in hexadecimal is a frame, and the answer is a line of
 // its fields.
+#![tactic(auto)]
+
 ghost use Rattle.std.specs.Prelude.{◌≡◌, ◌-◌, length};
 ghost use Rattle.basics.specs.Laid.{Room, Laid};
 ghost use Rattle.frame_layout.specs.Frames.{data_of, refuse, read_frame};
-ghost use Rattle.frame_reader.specs.Answers.{reading_of, cursorOf, rangesFrom, Held};
+ghost use Rattle.frame_reader.specs.Answers.{reading_of, cursor_of, ranges_from, Held};
 ghost use Rattle.frame_reader.specs.declared.Frame.TheVariants.{Status};
 ghost use Rattle.lister_text.specs.Texts.{range_text, ranges_text};
 ghost use Rattle.lister_answers.specs.Answers.{answer_to, roomy, answer_in, frame_in};
@@ -50,8 +52,8 @@ fn put_range(start: u32, end: u32, out: &mut [u8], at: usize) -> usize
 
 // The ranges from a cursor on, each with a comma before it.
 fn put_more(frame: &[u8], cursor: frame_reader::Cursor, out: &mut [u8], at: usize) -> usize
-    requires { Held frame.now cursor × Room out.old at (length (more_text (rangesFrom frame.now cursor))) }
-    ensures { Laid out.old at (more_text (rangesFrom frame.now cursor)) result out.new }
+    requires { Held frame.now cursor × Room out.old at (length (more_text (ranges_from frame.now cursor))) }
+    ensures { Laid out.old at (more_text (ranges_from frame.now cursor)) result out.new }
 {
     let mut cursor = cursor;
     let mut at = at;
@@ -68,8 +70,8 @@ fn put_more(frame: &[u8], cursor: frame_reader::Cursor, out: &mut [u8], at: usiz
 
 // A status's ranges joined by commas, or `none`.
 fn put_ranges(frame: &[u8], head: frame_reader::Head, out: &mut [u8], at: usize) -> usize
-    requires { Held frame.now (cursorOf head) × Room out.old at (length (ranges_text (rangesFrom frame.now (cursorOf head)))) }
-    ensures { Laid out.old at (ranges_text (rangesFrom frame.now (cursorOf head))) result out.new }
+    requires { Held frame.now (cursor_of head) × Room out.old at (length (ranges_text (ranges_from frame.now (cursor_of head)))) }
+    ensures { Laid out.old at (ranges_text (ranges_from frame.now (cursor_of head))) result out.new }
 {
     let first = frame_reader::first_range(head);
     let step = frame_reader::next_range(frame, first);
@@ -93,7 +95,7 @@ fn put_data(long: bool, number: u32, out: &mut [u8], at: usize) -> usize
 
 // A status: type, highest, desired, minimum, Final, ranges.
 fn put_status(frame: &[u8], head: frame_reader::Head, out: &mut [u8], at: usize) -> usize
-    requires { Held frame.now (cursorOf head) × Room out.old at (length (answer_to (reading_of frame.now (Status head)))) }
+    requires { Held frame.now (cursor_of head) × Room out.old at (length (answer_to (reading_of frame.now (Status head)))) }
     ensures { Laid out.old at (answer_to (reading_of frame.now (Status head))) result out.new }
 {
     let fields = [

@@ -1,7 +1,6 @@
 -- What the calls that take an input in blocks leave.
 -- Assumes nothing.
-use Rattle.std.specs.Prelude.{◌≡◌, List, [], ℕ, ◌-◌, ◌≤◌, ◌<◌, length, take, drop}
-use Rattle.basics.specs.Basics.{if◌then◌else◌}
+use Rattle.std.specs.Prelude.{◌≡◌, List, [], ℕ, ◌-◌, ◌≤◌, ◌<◌, length, take, drop, if◌then◌else◌}
 use Rattle.program_lines.specs.Feeding.{most_held, feeding, last_of, Left, leaving}
 use Rattle.lister_answers.specs.Answers.{roomy}
 use Rattle.lister_lines.specs.declared.Fed.{Fed}

@@ -1,5 +1,7 @@
 // The listing of an input (document 01, its last section), an answer to each of its lines. The input comes in blocks of any size,
 // and the answers go to a buffer that the caller writes out, so that an input of any length takes the same memory.
+#![tactic(auto)]
+
 ghost use Rattle.std.specs.Prelude.{◌≡◌, ◌-◌, ◌≤◌, ◌<◌, length, take};
 ghost use Rattle.basics.specs.Laid.{Room, Laid};
 ghost use Rattle.program_lines.specs.Feeding.{most_held};

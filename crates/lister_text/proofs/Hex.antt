@@ -55,9 +55,6 @@ module _ (a b : ℕ) (cs : List ℕ) where
   pub octets_other : 256 ≤ octet_of a b → octets_in (a ∷ b ∷ cs) ≡ []
   octets_other h = either h (λ e. rw e) (λ d e. rw (d, e))
 
-  pub digits_other : 256 ≤ octet_of a b → all is_digit (a ∷ b ∷ cs) ≡ false
-  digits_other h = either h (λ e. rw e) (λ d e. rw (d, e))
-
 -- the pair of a line from i on, and what follows it
 pub pair_at : (l : List ℕ) (i : ℕ) → i + 1 < length l → drop i l ≡ get_or l i 0 ∷ get_or l (i + 1) 0 ∷ drop (i + 2) l
 pair_at l i h =

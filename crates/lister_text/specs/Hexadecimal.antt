@@ -1,9 +1,9 @@
 -- A line in hexadecimal (document 01, its last section), and what decoding it answers and leaves.
 -- Assumes nothing.
-use Rattle.std.specs.Prelude.{ℕ, ◌+◌, ◌-◌, ◌*◌, ◌%◌, Bool, not, ltb, List, [], ◌∷◌, length, ◌==◌, nat_le, nat_lt}
+use Rattle.std.specs.Prelude.{ℕ, ◌+◌, ◌-◌, ◌*◌, ◌%◌, Bool, not, ltb, List, [], ◌∷◌, length, ◌==◌, nat_le, nat_lt, if◌then◌else◌}
 use Prim.Native.Char.{code}
 use Rattle.std.proofs.lemmas.List.Edits.{sets}
-use Rattle.basics.specs.Basics.{if◌then◌else◌, ◌and◌, ◌or◌, all}
+use Rattle.basics.specs.Basics.{◌and◌, ◌or◌, all}
 use Rattle.frame_layout.specs.Frames.{most_octets}
 use Rattle.lister_text.specs.declared.Decoded.{Decoded}
 use Rattle.lister_text.specs.declared.Decoded.TheVariants.{Octets, Unreadable}

@@ -1,11 +1,11 @@
 -- Texts, as lists of the octets of their characters: what they are made of, a number in decimal, parts with marks between them, a text
 -- that is laid where it fits, and where a line ends.
 -- Assumes nothing.
-use Rattle.std.specs.Prelude.{◌≡◌, ℕ, zero, suc, ◌+◌, ◌/◌, ◌%◌, ◌<◌, ◌≤◌, Bool, true, not, List, [], ◌∷◌, ◌++◌, map, length, take, ◌==◌, nat_le, nat_lt, slice_index}
+use Rattle.std.specs.Prelude.{◌≡◌, ℕ, zero, suc, ◌+◌, ◌/◌, ◌%◌, ◌<◌, ◌≤◌, Bool, true, not, List, [], ◌∷◌, ◌++◌, map, length, take, ◌==◌, nat_le, nat_lt, slice_index, if◌then◌else◌}
 use Prim.Native.Char.{code}
 use Prim.Native.String.{String}
 use Prim.Native.String as string
-use Rattle.basics.specs.Basics.{if◌then◌else◌, bit, all}
+use Rattle.basics.specs.Basics.{bit, all}
 use Rattle.frame_layout.specs.Frames.{Range}
 
 -- ---- characters

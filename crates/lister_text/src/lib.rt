@@ -1,5 +1,7 @@
 // Texts on an output and lines of an input, for the lister and for others: octets read from hexadecimal, texts and decimals laid
 // where there is room for them, and the place where a line ends.
+#![tactic(auto)]
+
 ghost use Rattle.std.specs.Prelude.{◌≡◌, ◌+◌, ◌<◌, ◌≤◌, length, nat_le, slice_index};
 ghost use Rattle.basics.specs.Laid.{Room, Laid};
 ghost use Rattle.lister_text.specs.Texts.{decimal, fitting, LineEnd};

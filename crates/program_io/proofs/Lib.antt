@@ -1,3 +1,5 @@
 pub mod Fewer
 pub mod Feeds
 pub mod Texts
+pub mod Known
+pub mod Runs

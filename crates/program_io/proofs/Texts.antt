@@ -1,10 +1,9 @@
--- What is said of a failure: the lines in decimal as the kit spells them, and its parts, each laid behind the one before it.
+-- What is said of a failure: the lines in decimal as itoa spells them, and its parts, each laid behind the one before it.
 -- Assumes nothing.
-use Rattle.std.proofs.Common.{◌≡◌, ℕ, zero, suc, ◌+◌, ◌*◌, ◌/◌, ◌%◌, ◌^◌, ◌<◌, ◌≤◌, List, [], ◌∷◌, ◌++◌, length, sym, ap, ◌∙◌, pow-suc, arith, length-append, lt-ltb}
+use Rattle.std.proofs.Common.{◌≡◌, ℕ, ◌+◌, ◌%◌, ◌^◌, ◌<◌, ◌≤◌, List, [], ◌∷◌, ◌++◌, length, sym, ap, ◌∙◌, arith, length-append}
+use Rattle.std.specs.Fmt.{decimal as standard}
+use Rattle.std.proofs.lemmas.Fmt.{decimal_by_steps}
 use Prim.Native.Char.{code}
-use native.Mathlib.Nat.{one-le-pow}
-use native.Mathlib.Numerals.{unary_clauses}
-use Rattle.io.specs.Digits.{last_digits, hex_digit_ascii, IsDigitCount}
 use Rattle.basics.specs.Laid.{Laid}
 use Rattle.basics.proofs.Laying.{laid_then, laid_length}
 use Rattle.lister_text.specs.Texts.{ascii, decimal, fitting}
@@ -12,22 +11,15 @@ use Rattle.lister_text.proofs.Laying.{laid_fitting}
 use Rattle.lister_text.proofs.Decimal.{decimal_one, decimal_more, decimal_most}
 use Rattle.program_io.specs.Failures.{most_word, answered, failed}
 
--- ---- a number as the kit spells it
+-- ---- a number as itoa spells it
 
--- the digit of a number below 10
-glyph_is : (d : ℕ) → d < 10 → hex_digit_ascii d ≡ code "0" + d
-glyph_is d h = rw (lt-ltb d 10 h)
-
--- the fewest digits that hold a number are it in decimal
-pub digits_decimal : (k n : ℕ) → IsDigitCount 10 1 n k → last_digits 10 k n ≡ decimal n
-digits_decimal zero n f = absurd (let no : ⊥ = omega (arith, f.0) in no)
-digits_decimal (suc zero) n f = ap (λ (d : ℕ). d ∷ []) (glyph_is (n % 10) (omega arith) ∙ omega (arith, f.1)) ∙ sym (decimal_one n f.1)
-digits_decimal (suc (suc k)) n f =
-    let p : 10 ^ suc k ≡ 10 ^ k * 10 = pow-suc 10 k in
-    let q : 10 ^ suc (suc k) ≡ 10 ^ suc k * 10 = pow-suc 10 (suc k) in
-    let some : 1 ≤ 10 ^ k = one-le-pow k 10 (omega arith) in
-    let least : 10 ^ k * 10 ≤ n = simp unary_clauses at (f.2 (omega arith)) in
-    rw (digits_decimal (suc k) (n / 10) (omega arith, omega (arith, f.1), λ _. simp unary_clauses (omega arith)), glyph_is (n % 10) (omega arith)) (sym (decimal_more n (omega arith)))
+-- std's digits of a number are it in decimal
+pub standard_decimal : (n : ℕ) → n < 2 ^ 64 → standard n ≡ decimal n
+standard_decimal =
+    decimal_by_steps
+    (λ (n : ℕ) (ds : List ℕ). ds ≡ decimal n)
+    (λ n h. sym (decimal_one n h))
+    (λ n ds h e. ap (λ (front : List ℕ). front ++ ((code "0" + n % 10) ∷ [])) e ∙ sym (decimal_more n h))
 
 -- ---- what is said, part by part
 

@@ -1,7 +1,8 @@
--- How many lines were answered, as a program counts them where it writes, and what it says where a read or a write fails. No contract can
--- say what a write leaves outside.
+-- How many lines were answered, as a program counts them where it writes, and what it says where a read or a write fails. What a write
+-- leaves outside is said where that is known (Rattle.std.specs.Io.KnownBytes).
 -- Assumes nothing.
-use Rattle.std.specs.Prelude.{◌≡◌, ℕ, ◌+◌, ◌%◌, ◌^◌, ◌≤◌, List, ◌++◌, length, take, ℤ, pos, negsuc, ◌==◌}
+use Rattle.std.specs.Prelude.{◌≡◌, ◌≢◌, ℕ, ◌+◌, ◌%◌, ◌^◌, ◌<◌, ◌≤◌, List, ◌++◌, length, take, ℤ, pos, negsuc, ◌==◌, slice_index}
+use Prim.Native.Char.{code}
 use Rattle.lister_text.specs.Texts.{ascii, line_feeds, decimal}
 use Rattle.program_io.specs.declared.Written.{Written}
 
@@ -33,3 +34,9 @@ failed what error = ascii "; " ++ what ++ ascii " failed, error " ++ decimal err
 -- both: what a program says where something failed
 abbrev pub failing : List ℕ → List ℕ → ℕ → ℕ → List ℕ
 failing name what lines error = answered name lines ++ failed what error
+
+-- std says an error in words with its number behind them in round brackets, as "No space left on device (os error 28)": where the last
+-- bracket opens at i + 1, and a blank stands before it, the words end at i
+abbrev pub WordsEnd : List ℕ → ℕ → Type 0
+WordsEnd text n = (i : ℕ) → i + 1 < length text → slice_index text (i + 1) ≡ code "("
+    → ((k : ℕ) → i + 1 < k → k < length text → slice_index text k ≢ code "(") → n ≡ i

@@ -1,2 +1,3 @@
 pub mod Reads
 pub mod Failures
+pub mod Runs

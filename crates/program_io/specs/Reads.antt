@@ -1,7 +1,6 @@
--- How often a program reads on. No contract can say what is read.
+-- How often a program reads on.
 -- Assumes nothing.
-use Rattle.std.specs.Prelude.{ℕ, ◌-◌, Bool}
-use Rattle.basics.specs.Basics.{if◌then◌else◌}
+use Rattle.std.specs.Prelude.{ℕ, ◌-◌, Bool, if◌then◌else◌}
 
 -- one read less, and none where there is nothing more to read
 abbrev pub reads_left : ℕ → Bool → ℕ

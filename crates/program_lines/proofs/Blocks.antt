@@ -6,11 +6,10 @@ use Prim.Native.Nat.{ℕ, ◌-◌}
 use lib.Dec.{eqb}
 use lib.ListN.{length}
 use lib.Seq.{append_snoc}
-use Rattle.basics.specs.Basics.{if◌then◌else◌}
 use Rattle.lister_text.specs.Texts.{line_feed, onto}
 use Rattle.lister_text.proofs.Cases.{true_or}
 use Rattle.program_lines.specs.Lines.{Answering, lines_of, answers}
-use Rattle.program_lines.specs.Feeding.{most_held, kept, FrontTells, room_for, feeding, last_of, Calls, CallsAnswer, none, call}
+use Rattle.program_lines.specs.Feeding.{most_held, kept, FrontTells, room_for, feeding, last_of, told, Calls, CallsAnswer, none, call}
 use Rattle.program_lines.proofs.Feeds.{take_more}
 
 -- an unfinished line before lines: it goes before the first
@@ -28,11 +27,6 @@ before_onto [] c [] = refl
 before_onto (x ∷ l) c [] = refl
 before_onto [] c (l ∷ ls) = refl
 before_onto (x ∷ k) c (l ∷ ls) = ap (λ (t : List ℕ). (x ∷ t) ∷ ls) (append_snoc k c l)
-
--- all that is said to octets behind an unfinished line without a limit of room, the last line's answer included
-abbrev told : {S : Type 0} → Answering S → S → List ℕ → List ℕ → List ℕ
-told p s line [] = last_of p s line
-told p s line (c ∷ cs) = if eqb c line_feed then p.answer s line ++ told p (p.next s line) [] cs else told p s (kept p (line ++ (c ∷ []))) cs
 
 module _ {S : Type 0} (p : Answering S) (tells : FrontTells p) where
   -- ---- feeding without a limit of room
@@ -54,10 +48,14 @@ module _ {S : Type 0} (p : Answering S) (tells : FrontTells p) where
       ∙ told_lines s (line ++ (c ∷ [])) cs
       ∙ ap (answers p s) (before_onto line c (lines_of cs))))
 
+  -- from the first line on, it is the answers to the input's lines
+  pub told_answers : (s : S) (input : List ℕ) → told p s [] input ≡ answers p s (lines_of input)
+  told_answers s input = told_lines s [] input ∙ ap (answers p s) (before_none (lines_of input))
+
   -- ---- calls
 
   -- a call takes a part of a block, and what it says comes before what is said to the rest
-  told_fed : (room : ℕ) (s : S) (line block later : List ℕ)
+  pub told_fed : (room : ℕ) (s : S) (line block later : List ℕ)
       → let f = feeding p room s line block in
       told p s line (block ++ later) ≡ f.said ++ told p f.state f.line (f.rest ++ later)
   told_fed room s line [] later = refl
@@ -81,4 +79,4 @@ module _ {S : Type 0} (p : Answering S) (tells : FrontTells p) where
 
   -- Whatever the blocks and the rooms were, what was said and the last line's answer are the answers to the input's lines.
   pub calls_answer : CallsAnswer p
-  calls_answer s s' input t last cs = calls_told cs ∙ told_lines s [] input ∙ ap (answers p s) (before_none (lines_of input))
+  calls_answer s s' input t last cs = calls_told cs ∙ told_answers s input

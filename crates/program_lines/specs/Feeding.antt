@@ -2,9 +2,8 @@
 -- between. proofs/Blocks.antt proves that what is said so is what is said to the whole input (`CallsAnswer`), of every program whose lines are told by
 -- what is held of them.
 -- Assumes nothing.
-use Rattle.std.specs.Prelude.{Bool, not, ◌≡◌, List, [], ◌∷◌, ◌++◌, ℕ, suc, ◌+◌, ◌-◌, ◌≤◌, leb, eqb, length, take}
+use Rattle.std.specs.Prelude.{Bool, not, ◌≡◌, List, [], ◌∷◌, ◌++◌, ℕ, suc, ◌+◌, ◌-◌, ◌≤◌, leb, eqb, length, take, if◌then◌else◌}
 use Rattle.std.proofs.lemmas.List.Edits.{sets}
-use Rattle.basics.specs.Basics.{if◌then◌else◌}
 use Rattle.lister_text.specs.Texts.{line_feed}
 use Rattle.program_lines.specs.Lines.{Answering, lines_of, answers}
 
@@ -46,8 +45,13 @@ abbrev pub feeding : {S : Type 0} → Answering S → ℕ → S → List ℕ →
 feeding p room s line [] = record { said = []; state = s; line = line; rest = [] }
 feeding p room s line (c ∷ cs) =
     if not (room_for p room) then record { said = []; state = s; line = line; rest = c ∷ cs } else
-    if eqb c line_feed then saying (p.answer s line) (feeding p (room - length (p.answer s line)) (p.next s line) [] cs) else
-    feeding p room s (kept p (line ++ (c ∷ []))) cs
+    (if eqb c line_feed then saying (p.answer s line) (feeding p (room - length (p.answer s line)) (p.next s line) [] cs) else
+    feeding p room s (kept p (line ++ (c ∷ []))) cs)
+
+-- all that is said to octets behind an unfinished line without a limit of room, the last line's answer included
+abbrev pub told : {S : Type 0} → Answering S → S → List ℕ → List ℕ → List ℕ
+told p s line [] = last_of p s line
+told p s line (c ∷ cs) = if eqb c line_feed then p.answer s line ++ told p (p.next s line) [] cs else told p s (kept p (line ++ (c ∷ []))) cs
 
 -- an input is fed: with an unfinished line before it, call after call takes of it what it takes, each from a block of any size
 -- at its front and into an output of any room; what was said, and the state and the unfinished line at its end

@@ -1,7 +1,6 @@
 -- The lines of an input, and all that a program says to them which answers each line in turn.
 -- Assumes nothing.
-use Rattle.std.specs.Prelude.{◌≡◌, true, List, [], ◌∷◌, ◌++◌, ℕ, eqb, take}
-use Rattle.basics.specs.Basics.{if◌then◌else◌}
+use Rattle.std.specs.Prelude.{◌≡◌, true, List, [], ◌∷◌, ◌++◌, ℕ, eqb, take, if◌then◌else◌}
 use Rattle.lister_text.specs.Texts.{line_feed, onto, unended, line_feeds, IsLine}
 
 -- the lines of an input: what each line feed ends, and what stands behind the last of them, unless that is nothing

@@ -1,4 +1,6 @@
 // Lines out of blocks, for the programs that answer line by line: what they hold of a line that a block leaves unfinished.
+#![tactic(auto)]
+
 ghost use Rattle.std.specs.Prelude.{◌≡◌, min, length};
 ghost use Rattle.program_lines.specs.Feeding.{Holds};
 
