@@ -16,10 +16,10 @@ use Rattle.replay_states.specs.Lines.{line_with}
 use Rattle.replay_states.proofs.OneLine.{line_with_lem}
 use Rattle.replay_answers.specs.declared.Answer.{Answer}
 use Rattle.replay_answers.specs.declared.Answer.TheVariants.{Ok, Unopened, Unreadable, Lost, Sent, Freed, Taken, Room, Refused}
-use Rattle.replay_answers.specs.Answers.{answerFields, hexDigit, hexText, frameFields}
+use Rattle.replay_answers.specs.Answers.{answer_fields, hex_digit, hex_text, frame_fields}
 
 -- no field of an answer has a line feed
-answer_plain : (a : Answer) → all unended (answerFields a) ≡ true
+answer_plain : (a : Answer) → all unended (answer_fields a) ≡ true
 answer_plain Ok = refl
 answer_plain Unopened = refl
 answer_plain Unreadable = refl
@@ -31,17 +31,17 @@ answer_plain (Room octets) = rw (unended_decimal octets)
 answer_plain (Refused number) = rw (unended_decimal number)
 
 -- nor has hexadecimal
-digit_plain : (n : ℕ) → eqb (hexDigit n) line_feed ≡ false
+digit_plain : (n : ℕ) → eqb (hex_digit n) line_feed ≡ false
 digit_plain n = below_or n 10 (λ b. rw (lt-ltb n 10 b) (printed (code "0" + n) (omega arith))) (λ b. rw (le-ltb n 10 b) (printed (code "a" + (n - 10)) (omega arith)))
 
-hex_plain : (os : List ℕ) → unended (hexText os) ≡ true
+hex_plain : (os : List ℕ) → unended (hex_text os) ≡ true
 hex_plain [] = refl
-hex_plain (o ∷ os) = unended_cons (hexDigit (o / 16)) (hexDigit (o % 16) ∷ hexText os) (digit_plain (o / 16)) (unended_cons (hexDigit (o % 16)) (hexText os) (digit_plain (o % 16)) (hex_plain os))
+hex_plain (o ∷ os) = unended_cons (hex_digit (o / 16)) (hex_digit (o % 16) ∷ hex_text os) (digit_plain (o / 16)) (unended_cons (hex_digit (o % 16)) (hex_text os) (digit_plain (o % 16)) (hex_plain os))
 
 -- ---- lines
 
-pub answer_line : (a : Answer) → IsLine (line_with (answerFields a))
-answer_line a = line_with_lem (answerFields a) (answer_plain a)
+pub answer_line : (a : Answer) → IsLine (line_with (answer_fields a))
+answer_line a = line_with_lem (answer_fields a) (answer_plain a)
 
-pub frame_line : (octets : List ℕ) → IsLine (line_with (frameFields octets))
-frame_line octets = line_with_lem (frameFields octets) (rw (hex_plain octets))
+pub frame_line : (octets : List ℕ) → IsLine (line_with (frame_fields octets))
+frame_line octets = line_with_lem (frame_fields octets) (rw (hex_plain octets))

@@ -1,18 +1,17 @@
 -- The field of accept: octets behind a tab are one field if they can be read at all, for a tab is no digit.
 -- Assumes nothing.
+use Rattle.std.specs.Prelude.{if◌then◌else◌}
 use mathlib.Core.Path.{◌≡◌, refl, ap}
 use mathlib.Core.Bool.{Bool, true, false, not}
 use mathlib.Core.List.{List, [], ◌∷◌}
 use Prim.Native.Nat.{ℕ}
-use native.Mathlib.Omega.{arith}
 use lib.Dec.{eqb}
 use lib.ListN.{length, drop}
 use borrow.Author.Tests.{eqb-true}
-use Rattle.basics.specs.Basics.{if◌then◌else◌, ◌and◌, ◌or◌, all}
+use Rattle.basics.specs.Basics.{◌and◌, ◌or◌, all}
 use Rattle.lister_text.specs.Texts.{tab}
 use Rattle.lister_text.specs.Hexadecimal.{digit_of, is_digit, bad_count, octets_in, decoded_of, decoded_into}
 use Rattle.lister_text.specs.declared.Decoded as D
-use Rattle.replay_calls.specs.declared.Call.TheVariants.{Unreadable}
 use Rattle.replay_calls.specs.Calls.{fields_in, first_field, tabbed_fields, framed, accept_of, decoded_behind}
 use Rattle.replay_calls.proofs.Fields.{fields_split}
 
@@ -56,12 +55,7 @@ accept_fields cs = by (shape cs)
     by (one p) = rw p
     by (more f g fs p q) = rw (p, none_read cs q)
 
--- nothing behind the word
-pub accept_none : (l frame : List ℕ) → length l ≡ 0 → (Unreadable ≡ accept_of (tabbed_fields l)) × (frame ≡ decoded_behind l frame)
-accept_none [] frame h = (refl, refl)
-accept_none (c ∷ cs) frame h = absurd (let no : ⊥ = omega arith in no)
-
--- something
+-- where something stands behind the word
 pub accept_some : (l frame : List ℕ) → (length l ≡ 0 → ⊥)
     → (accept_of (tabbed_fields l) ≡ framed (decoded_of (drop 1 l))) × (decoded_behind l frame ≡ decoded_into (drop 1 l) frame)
 accept_some [] frame h = absurd (h refl)

@@ -1,13 +1,12 @@
 -- A line is its first field, and the fields behind it, each with a tab before it.
 -- Assumes nothing.
-use Rattle.basics.specs.Basics.{if◌then◌else◌}
+use Rattle.std.specs.Prelude.{if◌then◌else◌}
 use mathlib.Core.Path.{◌≡◌, refl, ap}
 use mathlib.Core.Bool.{Bool, true, false}
 use mathlib.Core.List.{List, [], ◌∷◌}
 use Prim.Native.Nat.{ℕ, suc, ◌+◌, ◌≤◌, ◌<◌}
 use native.Mathlib.Omega.{arith}
 use native.Mathlib.Numerals.{add-one}
-use borrow.Author.Tests.{eq-eqb, ne_eqb}
 use lib.Dec.{eqb}
 use lib.ListN.{length, get_or, take, drop}
 use lib.Seq.{drop-cons}
@@ -48,11 +47,3 @@ first_within (c ∷ cs) = by (eqb c tab) (first_within cs)
 -- what stands there, and what behind it
 pub split : (l : List ℕ) (i : ℕ) → i < length l → drop i l ≡ get_or l i 0 ∷ drop (i + 1) l
 split l i h = rw (add-one, drop-cons l i 0)
-
--- a tab ends the field
-pub first_here : (l : List ℕ) (i : ℕ) → i < length l → get_or l i 0 ≡ tab → length (first_field (drop i l)) ≡ 0
-first_here l i h e = rw (split l i h, eq-eqb (get_or l i 0) tab e)
-
--- and another character doesn't
-pub first_on : (l : List ℕ) (i : ℕ) → i < length l → (get_or l i 0 ≡ tab → ⊥) → length (first_field (drop i l)) ≡ suc (length (first_field (drop (i + 1) l)))
-first_on l i h n = rw (split l i h, ne_eqb (get_or l i 0) tab n)

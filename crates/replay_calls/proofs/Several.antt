@@ -1,14 +1,14 @@
 -- Several numbers, one field after another.
 -- Assumes nothing.
 use mathlib.Core.Path.{◌≡◌, refl, sym, ◌∙◌, ap}
-use mathlib.Core.List.{List, [], ◌∷◌, ◌++◌, append_assoc, append-nil}
+use mathlib.Core.List.{List, [], ◌∷◌, ◌++◌, append_assoc}
 use mathlib.Core.Option.{Option, none, some}
-use Prim.Native.Nat.{ℕ, ◌+◌, ◌≤◌, ◌<◌}
+use Prim.Native.Nat.{ℕ, ◌+◌, ◌<◌}
 use native.Mathlib.Omega.{arith}
-use lib.ListN.{length, get_or, take, drop, length-append}
-use lib.Seq.{drop-drop, length-take-le}
-use borrow.Author.Tests.{le-leb, lt-leb}
-use Rattle.replay_calls.specs.Calls.{first_field, tabbed_fields, before, few, held_in, call_with}
+use lib.ListN.{length, drop, length-append}
+use lib.Seq.{drop-drop}
+use borrow.Author.Tests.{lt-leb}
+use Rattle.replay_calls.specs.Calls.{first_field, tabbed_fields, before, few, call_with}
 use Rattle.replay_calls.specs.declared.Number.TheVariants.{Value}
 use Rattle.replay_calls.proofs.Fields.{split, fields_split}
 
@@ -36,10 +36,6 @@ pub five : (ms : List ℕ) (n : ℕ) (o : Option (List ℕ)) → length ms ≡ 4
 five ms n none h = refl
 five ms n (some ns) h = rw (lt-leb (length (ms ++ (n ∷ ns))) 4 (omega (arith, length-append ms (n ∷ ns))))
 
--- at last those read are all
-pub all_held : (vs : List ℕ) (n : ℕ) → n ≤ 4 → n ≤ length vs → held_in n vs ≡ few (following (take n vs) (some []))
-all_held vs n h k = rw (le-leb n 4 h, append-nil (take n vs), length-take-le n vs k, le-leb n 4 h)
-
 -- no call has five numbers
 pub few_enough : (w : List ℕ) (o : Option (List ℕ)) → call_with w (few o) ≡ call_with w o
 few_enough w none = refl
@@ -49,22 +45,3 @@ few_enough w (some (a ∷ b ∷ [])) = refl
 few_enough w (some (a ∷ b ∷ c ∷ [])) = refl
 few_enough w (some (a ∷ b ∷ c ∷ d ∷ [])) = refl
 few_enough w (some (a ∷ b ∷ c ∷ d ∷ e ∷ ns)) = rw (lt-leb (length (a ∷ b ∷ c ∷ d ∷ e ∷ ns)) 4 (omega arith))
-
--- at first none are read
-pub following_none : (o : Option (List ℕ)) → following [] o ≡ o
-following_none none = refl
-following_none (some ns) = refl
-
--- the numbers at the front of four
-pub record Fronts (l : List ℕ) : Type 0 where
-  pub one : take 1 l ≡ get_or l 0 0 ∷ []
-  pub two : take 2 l ≡ get_or l 0 0 ∷ get_or l 1 0 ∷ []
-  pub three : take 3 l ≡ get_or l 0 0 ∷ get_or l 1 0 ∷ get_or l 2 0 ∷ []
-  pub four : take 4 l ≡ get_or l 0 0 ∷ get_or l 1 0 ∷ get_or l 2 0 ∷ get_or l 3 0 ∷ []
-
-pub fronts : (l : List ℕ) → length l ≡ 4 → Fronts l
-fronts [] h = absurd (let no : ⊥ = omega arith in no)
-fronts (a ∷ []) h = absurd (let no : ⊥ = omega arith in no)
-fronts (a ∷ b ∷ []) h = absurd (let no : ⊥ = omega arith in no)
-fronts (a ∷ b ∷ c ∷ []) h = absurd (let no : ⊥ = omega arith in no)
-fronts (a ∷ b ∷ c ∷ d ∷ l) h = record { one = refl; two = refl; three = refl; four = refl }

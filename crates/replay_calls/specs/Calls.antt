@@ -1,10 +1,10 @@
 -- What a line of a script says (the table of calls): a word and its fields, parted by tabs. A text is a list of the octets of
 -- its characters.
 -- Assumes nothing.
-use Rattle.std.specs.Prelude.{Bool, not, List, [], ◌∷◌, ℕ, ◌+◌, ◌-◌, ◌*◌, ltb, leb, eqb, length, take, drop}
+use Rattle.std.specs.Prelude.{Bool, not, List, [], ◌∷◌, ℕ, ◌+◌, ◌-◌, ◌*◌, ltb, leb, eqb, length, take, drop, if◌then◌else◌}
 use Rattle.std.proofs.Math.Option.{Option, none, some}
 use Prim.Native.Char.{code}
-use Rattle.basics.specs.Basics.{if◌then◌else◌, ◌and◌, ◌or◌, all, same}
+use Rattle.basics.specs.Basics.{◌and◌, ◌or◌, all, same}
 use Rattle.lister_text.specs.Texts.{ascii, tab, onto}
 use Rattle.lister_text.specs.Hexadecimal.{decoded_of, decoded_into}
 use Rattle.lister_text.specs.declared.Decoded as D
@@ -93,18 +93,18 @@ abbrev pub call_with : List ℕ → Option (List ℕ) → Call
 call_with w none = Unreadable
 call_with w (some []) =
     if same w (ascii "take") then Ledger L.TheVariants.Take else
-    if same w (ascii "room") then Ledger L.TheVariants.Room else
-    if same w (ascii "keeper") then Keeper K.TheVariants.Show else
-    if same w (ascii "ledger") then Ledger L.TheVariants.Show else
-    Unreadable
+    (if same w (ascii "room") then Ledger L.TheVariants.Room else
+    (if same w (ascii "keeper") then Keeper K.TheVariants.Show else
+    (if same w (ascii "ledger") then Ledger L.TheVariants.Show else
+    Unreadable)))
 call_with w (some (a ∷ [])) =
     if same w (ascii "expire") then Keeper (K.TheVariants.Expire a) else
-    if same w (ascii "confirm") then Keeper (K.TheVariants.Confirm a) else
-    Unreadable
+    (if same w (ascii "confirm") then Keeper (K.TheVariants.Confirm a) else
+    Unreadable)
 call_with w (some (a ∷ b ∷ [])) =
     if same w (ascii "arrive") then Keeper (K.TheVariants.Arrive a b) else
-    if same w (ascii "send") then Ledger (L.TheVariants.Send a b) else
-    Unreadable
+    (if same w (ascii "send") then Ledger (L.TheVariants.Send a b) else
+    Unreadable)
 call_with w (some (a ∷ b ∷ c ∷ [])) = if same w (ascii "open") then Open (record { bits = a; first = b; pdcp = c }) else Unreadable
 call_with w (some (a ∷ b ∷ c ∷ d ∷ [])) = if same w (ascii "status") then status_call a b c d else Unreadable
 call_with w (some (a ∷ b ∷ c ∷ d ∷ e ∷ ns)) = Unreadable

@@ -1,4 +1,6 @@
 // A line of a script taken apart: one call a line, its fields parted by tabs.
+#![tactic(auto)]
+
 ghost use Rattle.std.specs.Prelude.{◌≡◌, [], ◌∷◌, ◌+◌, ◌-◌, ◌<◌, length};
 ghost use Rattle.std.proofs.Math.Option.{some};
 ghost use Rattle.basics.specs.Basics.{same as «same_of»};

@@ -1,8 +1,8 @@
 -- What a call leaves of both ends of one bearer, and of an output that its line is laid in.
 -- Assumes nothing.
-use Rattle.std.specs.Prelude.{◌≡◌, Bool, true, false, not, List, ℕ, ◌+◌, leb, length}
+use Rattle.std.specs.Prelude.{◌≡◌, Bool, true, false, not, List, ℕ, ◌+◌, leb, length, if◌then◌else◌}
 use Rattle.std.proofs.lemmas.List.Edits.{sets}
-use Rattle.basics.specs.Basics.{if◌then◌else◌, ◌and◌, Outcome, done, refused}
+use Rattle.basics.specs.Basics.{◌and◌, Outcome, done, refused}
 use Rattle.bearer.specs.Keeper as secondary
 use Rattle.bearer.specs.Ledger as master
 use Rattle.replay_calls.specs.declared.Call.{Call}

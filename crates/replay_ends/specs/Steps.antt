@@ -12,7 +12,7 @@ use Rattle.replay_answers.specs.declared.Answer.{Answer}
 use Rattle.replay_answers.specs.declared.Answer as A
 use Rattle.replay_states.specs.Lines.{line_with}
 use Rattle.replay_states.specs.States.{keeper_fields, ledger_fields}
-use Rattle.replay_answers.specs.Answers.{answerFields, frameFields}
+use Rattle.replay_answers.specs.Answers.{answer_fields, frame_fields}
 
 -- what a call leaves: a state, and the line that answers it
 pub record Step (S : Type 0) : Type 0 where
@@ -46,7 +46,7 @@ shown s fields = record { state = s; line = line_with fields }
 
 -- a state, and the line of an answer
 abbrev pub answered : {S : Type 0} → S → Answer → Step S
-answered s a = shown s (answerFields a)
+answered s a = shown s (answer_fields a)
 
 -- what a machine leaves, and the line of its answer
 abbrev pub following : {S A : Type 0} → (A → Answer) → After S A → Step S
@@ -54,8 +54,8 @@ following f a = answered a.state (answer_by f a.answer)
 
 -- the line of a status: its frame's octets, out of the buffer
 abbrev pub status_line : Outcome ℕ → List ℕ → List ℕ
-status_line (done n) buffer = line_with (frameFields (take n buffer))
-status_line (refused n) buffer = line_with (answerFields (A.TheVariants.Refused n))
+status_line (done n) buffer = line_with (frame_fields (take n buffer))
+status_line (refused n) buffer = line_with (answer_fields (A.TheVariants.Refused n))
 
 -- what a status leaves, and its line
 abbrev pub reporting : secondary.Reported → Step secondary.Keeper

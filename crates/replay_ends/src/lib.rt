@@ -1,6 +1,8 @@
 // Both ends of one bearer as calls are played on them. The secondary's end is the keeper's lent arrays, the master's a
 // ledger by value. Here are an open, which is both ends' alike, and a line that says no call; the crates replay_keeper and
 // replay_ledger have the calls on one end.
+#![tactic(auto)]
+
 ghost use Rattle.std.specs.Prelude.{◌≡◌, List, ℕ, ◌≤◌, length};
 ghost use Rattle.bearer.specs.Keeper.{Keeper, open_keeper};
 ghost use Rattle.bearer.specs.Ledger.{open_ledger};
@@ -59,8 +61,8 @@ pub fn play_open(
     out: &mut [u8],
     p: Played,
 ) -> Played
-    ensures by_index { (frame : List ℕ) → record { ends = ends_of result.opened (keeper_in numbers.new pdcps.new marks.new starts.new ends.exit.now words.new) (ledger_in result.ledger); out = out.new; at = result.at }
-        ≡ play_into (ends_of p.opened (keeper_in numbers.old pdcps.old marks.old starts.old ends.entry.now words.old) (ledger_in p.ledger)) (Open o) frame out.old p.at }
+    ensures result_after { (frame : List ℕ) → record { ends = ends_of result.opened (keeper_in numbers.new pdcps.new marks.new starts.new ends.new words.new) (ledger_in result.ledger); out = out.new; at = result.at }
+        ≡ play_into (ends_of p.opened (keeper_in numbers.old pdcps.old marks.old starts.old ends.old words.old) (ledger_in p.ledger)) (Open o) frame out.old p.at }
     ensures at_in_bounds { p.at ≤ length out.old → result.at ≤ length out.old }
 {
     if !replay_states::has_room(out.len(), p.at) {

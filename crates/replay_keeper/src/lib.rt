@@ -1,4 +1,6 @@
 // Calls on the secondary, played on the keeper's lent arrays, and the line of each answer laid in an output.
+#![tactic(auto)]
+
 ghost use Rattle.std.specs.Prelude.{◌≡◌, List, ◌++◌, ℕ, ◌≤◌, length, replicate};
 ghost use Rattle.bearer.specs.Keeper.{«Keeper» as «Secondary»};
 ghost use Rattle.bearer.specs.Ledger.{«Ledger» as «Master»};
@@ -163,8 +165,8 @@ pub fn play_keeper(
     out: &mut [u8],
     at: usize,
 ) -> usize
-    ensures result_after { (l : «Master» Unit) (frame : List ℕ) → record { ends = ends_of opened (keeper_in numbers.new pdcps.new marks.new starts.new ends.exit.now words.new) l; out = out.new; at = result }
-        ≡ play_into (ends_of opened (keeper_in numbers.old pdcps.old marks.old starts.old ends.entry.now words.old) l) (Keeper call) frame out.old at }
+    ensures result_after { (l : «Master» Unit) (frame : List ℕ) → record { ends = ends_of opened (keeper_in numbers.new pdcps.new marks.new starts.new ends.new words.new) l; out = out.new; at = result }
+        ≡ play_into (ends_of opened (keeper_in numbers.old pdcps.old marks.old starts.old ends.old words.old) l) (Keeper call) frame out.old at }
     ensures upper_bound { at ≤ length out.old → result ≤ length out.old }
 {
     if !opened {

@@ -1,4 +1,6 @@
 // Calls on the master, played on a ledger by value, and the line of each answer laid in an output.
+#![tactic(auto)]
+
 ghost use Rattle.std.specs.Prelude.{◌≡◌, ◌≤◌, length};
 ghost use Rattle.bearer.specs.Keeper.{«Keeper» as «Secondary»};
 ghost use Rattle.bearer.specs.Ledger.{«Ledger» as «Master»};

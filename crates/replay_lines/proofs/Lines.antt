@@ -1,5 +1,6 @@
 -- A line played: what is held of it tells what it leaves, whatever an earlier line left in the frame's buffer.
 -- Assumes nothing.
+use Rattle.std.specs.Prelude.{if◌then◌else◌}
 use mathlib.Core.Path.{◌≡◌, refl, sym, ◌∙◌, ap}
 use mathlib.Core.Bool.{Bool, true, false, not}
 use mathlib.Core.List.{List, [], ◌∷◌}
@@ -10,7 +11,7 @@ use lib.Dec.{ltb}
 use lib.ListN.{length, take, drop}
 use lib.Seq.{sets, length-sets, sets-eq, take_at}
 use borrow.Author.Tests.{ltb-false}
-use Rattle.basics.specs.Basics.{if◌then◌else◌, ◌or◌, all, same}
+use Rattle.basics.specs.Basics.{◌or◌, all, same}
 use Rattle.basics.proofs.Choices.{or_false}
 use Rattle.bearer.specs.Ledger as master
 use Rattle.frame_layout.specs.Frames.{most_octets}
@@ -23,7 +24,7 @@ use Rattle.program_lines.specs.Feeding.{kept, FrontTells}
 use Rattle.replay_calls.specs.Calls.{most_room, first_field, tabbed_fields, numbers_of, call_with, framed, accept_of, read_call, decoded_behind, frame_after}
 use Rattle.replay_calls.specs.Bound.{most_line}
 use Rattle.replay_calls.specs.declared.Call.{Call}
-use Rattle.replay_calls.specs.declared.Call.TheVariants.{Ledger, Unreadable}
+use Rattle.replay_calls.specs.declared.Call.TheVariants.{Ledger}
 use Rattle.replay_calls.specs.declared.LedgerCall.TheVariants.{Accept}
 use Rattle.replay_calls.proofs.Accept.{accept_some}
 use Rattle.replay_calls.proofs.Fields.{fields_split}

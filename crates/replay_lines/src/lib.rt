@@ -1,5 +1,7 @@
 // A script played line by line, both ends kept between them. It comes in blocks of any size, and the answers go to a buffer that the
 // caller writes out, so that a script of any length takes the same memory.
+#![tactic(auto)]
+
 ghost use Rattle.std.specs.Prelude.{◌≡◌, true, false, ◌≤◌, ◌<◌, min, length, take, replicate};
 ghost use Rattle.frame_layout.specs.Frames.{most_octets};
 ghost use Rattle.keeper.specs.View.{keeper_in};
@@ -38,7 +40,7 @@ struct Part {
 
 // How far a block is taken: how many of its octets were, how many are held of the line that they leave unfinished, whether they
 // end a line, how many of that are held, and whether to go on.
-#[derive(Drop)]
+#[derive(Clone, Copy)]
 struct Turn {
     taken: usize,
     held: usize,

@@ -2,25 +2,17 @@
 -- Assumes nothing.
 use mathlib.Core.Path.{◌≡◌, refl, sym}
 use mathlib.Core.List.{List, [], ◌∷◌, ◌++◌, append-nil}
-use Prim.Native.Nat.{ℕ, ◌+◌, ◌≤◌, ◌<◌}
+use Prim.Native.Nat.{ℕ, ◌+◌, ◌≤◌}
 use native.Mathlib.Nat.{add-zero}
 use native.Mathlib.Omega.{arith}
-use lib.ListN.{length, set, length-append}
-use borrow.Author.Tests.{le-leb, lt-leb}
+use lib.ListN.{length, length-append}
+use borrow.Author.Tests.{le-leb}
 use Rattle.basics.specs.Laid.{Laid, Room}
-use Rattle.basics.proofs.Laying.{laid_length, laid_none, laid_octet, laid_then}
+use Rattle.basics.proofs.Laying.{laid_length, laid_none, laid_then}
 use Rattle.lister_text.specs.Texts.{fitting}
 use Rattle.replay_parts.specs.Parts.{together, in_turn, Parts, Puts}
 
 -- ---- each where it fits
-
--- one character, which doesn't fit
-pub octet_left : (d : List ℕ) (at x : ℕ) → length d ≤ at → Laid d at (fitting d at (x ∷ [])) at d
-octet_left d at x h = rw (lt-leb (at + 1) (length d) (omega arith)) (laid_none d refl)
-
--- and one which does
-pub octet_laid : (d : List ℕ) (at x : ℕ) → at < length d → Laid d at (fitting d at (x ∷ [])) (at + 1) (set d at x)
-octet_laid d at x h = rw (le-leb (at + 1) (length d) (omega arith)) (laid_octet refl (laid_none (set d at x) refl))
 
 together_length : (t : List ℕ) (ts : List (List ℕ)) → length (together (t ∷ ts)) ≡ length t + length (together ts)
 together_length t [] = sym (add-zero (length t))

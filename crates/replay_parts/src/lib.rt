@@ -1,4 +1,6 @@
 // The parts of a line: each is laid at a place where it fits, and else left out, and the place behind it is the answer.
+#![tactic(auto)]
+
 ghost use Rattle.std.specs.Prelude.{[], ◌∷◌, ◌+◌, length};
 ghost use Rattle.basics.specs.Laid.{Laid};
 ghost use Rattle.lister_text.specs.Texts.{line_feed, tab, decimal, fitting};

@@ -1,7 +1,7 @@
 -- Fields and a line feed, where there is room for any line.
 -- Assumes nothing.
-use mathlib.Core.Path.{◌≡◌, refl}
-use mathlib.Core.Bool.{true, false}
+use mathlib.Core.Path.{◌≡◌}
+use mathlib.Core.Bool.{true}
 use mathlib.Core.List.{List, [], ◌∷◌, ◌++◌}
 use Prim.Native.Nat.{ℕ, ◌+◌, ◌≤◌}
 use native.Mathlib.Omega.{arith}
@@ -9,7 +9,6 @@ use lib.Dec.{leb}
 use lib.ListN.{length}
 use borrow.Author.Tests.{leb-true}
 use Rattle.basics.specs.Laid.{Laid}
-use Rattle.basics.proofs.Laying.{laid_none}
 use Rattle.lister_text.specs.Texts.{line_feed, tab, parted, fitting}
 use Rattle.replay_parts.specs.Parts.{Puts}
 use Rattle.replay_parts.proofs.Putting.{puts_octet, puts_then}
@@ -25,7 +24,3 @@ line_laid {d} {e} {f} {at} {mid} {next} {m} fields h room p q =
     let fits : at + length (parted tab fields ++ (line_feed ∷ [])) ≤ length d = omega (arith, both.short, leb-true (at + most_text) (length d) room) in
     let laid = both.laid fits in
     (rw room laid, λ within. omega (arith, laid.behind, fits))
-
--- and elsewhere nothing
-pub line_left : (d : List ℕ) (at : ℕ) (line : List ℕ) → leb (at + most_text) (length d) ≡ false → Said d at line at d
-line_left d at line none = (rw none (laid_none d refl), λ within. within)

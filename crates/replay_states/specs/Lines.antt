@@ -1,7 +1,6 @@
 -- The lines that answer calls: fields parted by tabs, laid where there is room for any line.
 -- Assumes nothing.
-use Rattle.std.specs.Prelude.{List, [], ◌∷◌, ◌++◌, ℕ, ◌+◌, ◌-◌, ◌≤◌, leb, length}
-use Rattle.basics.specs.Basics.{if◌then◌else◌}
+use Rattle.std.specs.Prelude.{List, [], ◌∷◌, ◌++◌, ℕ, ◌+◌, ◌-◌, ◌≤◌, leb, length, if◌then◌else◌}
 use Rattle.basics.specs.Laid.{Laid}
 use Rattle.lister_text.specs.Texts.{line_feed, tab, parted}
 

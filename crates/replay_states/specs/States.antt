@@ -1,8 +1,8 @@
 -- The fields of an end as it stands (the table of calls). A text is a list of the octets of its characters.
 -- Assumes nothing.
-use Rattle.std.specs.Prelude.{Bool, List, [], ◌∷◌, ◌++◌, map, ℕ}
+use Rattle.std.specs.Prelude.{Bool, List, [], ◌∷◌, ◌++◌, map, ℕ, if◌then◌else◌}
 use Prim.Native.Char.{code}
-use Rattle.basics.specs.Basics.{if◌then◌else◌, bit}
+use Rattle.basics.specs.Basics.{bit}
 use Rattle.bearer.specs.Keeper.{Keeper, Record}
 use Rattle.bearer.specs.Ledger as master
 use Rattle.lister_text.specs.Texts.{ascii, decimal, joined, ranges_text}

@@ -1,5 +1,7 @@
 // An end as it stands, in a line that is laid in an output that has room for any line, and else not at all. A line ends within the
 // output: none is cut. No line is longer than the secondary's, so what room any takes is said here.
+#![tactic(auto)]
+
 ghost use Rattle.std.specs.Prelude.{◌≡◌, ◌∷◌, ◌++◌, map, ◌+◌, ◌*◌, ◌≤◌, leb, length, take};
 ghost use Rattle.basics.specs.Basics.{bit, is_set};
 ghost use Rattle.bearer.specs.Bearer.{most_entries};
