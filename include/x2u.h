@@ -35,7 +35,7 @@
 #include <stddef.h>
 #include <stdint.h>
 
-#define X2U_VERSION 30100 /* 3.1.0, see CHANGELOG.md */
+#define X2U_VERSION 30000 /* 3.0.0, see CHANGELOG.md */
 
 #if SIZE_MAX != 0xffffffffffffffff
 #error "x2u.h: size_t is to be 64 bits wide: there is no archive for x32 and for 32-bit processors"

@@ -2,11 +2,11 @@
 # archive.sh [TARGET]: the one archive that a program in C links, for a processor. Prints its path, as its only standard output.
 #
 # TARGET is one of these; without it, or as `native`, it is this machine's own:
-#   x86-64    target/x86-64/libx2u.a, of the kit's own objects: the shipped build
+#   x86-64    target/x86-64/libx2u.a: the shipped build
 #   aarch64   target/aarch64/libx2u.a, of the same code compiled for 64-bit Arm
 # So on either   gcc -Iinclude examples/secondary.c "$(scripts/archive.sh)" -o secondary && ./secondary
 #
-# It proves the crates c_calls and c_frames by rt, joins their objects and checks the whole. The first time takes about 5 minutes; with
+# It proves the crates c_calls_c and c_frames by rt, joins their objects and checks the whole. The first time takes about 5 minutes; with
 # nothing changed a second, and nothing is proved or built again. Says on standard error what it is doing.
 # Exit status: 0 built, 1 not proved or not built, 2 a wrong call.
 set -eu
@@ -27,13 +27,13 @@ objects_of() {
   local part o n=0
   part=$(scripts/native.sh "$1" "$target")
   mkdir "$work/$1"
-  (cd "$work/$1" && "$tools/bin/llvm-ar" x "$part")
+  (cd "$work/$1" && "$tools/llvm-ar" x "$part")
   for o in "$work/$1"/*; do n=$((n + 1)) && mv "$o" "$work/$1-$n.o"; done
-  [ "$n" = "$("$tools/bin/llvm-ar" t "$part" | wc -l)" ] || broken "two objects of $part have one name"
+  [ "$n" = "$("$tools/llvm-ar" t "$part" | wc -l)" ] || broken "two objects of $part have one name"
 }
-objects_of c_calls
+objects_of c_calls_c
 objects_of c_frames
-"$tools/bin/llvm-ar" rcsD "$work/libx2u.a" "$work"/*.o # the kit's, since it makes an index of any processor's objects
+"$tools/llvm-ar" rcsD "$work/libx2u.a" "$work"/*.o # the kit's, since it makes an index of any processor's objects
 
 # It defines each function of the header once and no other global symbol, and needs none from elsewhere
 sed -n 's/^int64_t \(x2u_[a-z_]*\)(.*/\1/p' include/x2u.h | LC_ALL=C sort >"$work/header"

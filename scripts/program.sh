@@ -1,10 +1,6 @@
-# Sourced by lister and replay behind help.sh: runs the built program of the script's name on files, and gives it the exit status that its
-# language has none of. A program says on standard error what failed, in one line, and nothing else ever: what comes there is a failure.
-# Programs are for x86-64 and run under the kit's loader and C library; on another processor under the kit's emulator.
-. "$here/kit.sh"
-program=target/bin/$script
-command=("$tools/lib/ld-linux-x86-64.so.2" --library-path "$tools/lib" "$here/../$program")
-[ ! -x "$tools/bin/qemu-x86_64" ] || command=("$tools/bin/qemu-x86_64" "${command[@]}")
+# Sourced by lister and replay behind help.sh: runs the built program of the script's name on files, and gives it the exit status that it
+# has none of, as it always ends with 0. A program says on standard error what failed, in one line, and nothing else ever: what comes there is a failure.
+program=crates/$script/out/$script
 files=()
 failed=0
 trap '' PIPE # a closed pipe is a failed write then, which the program tells
@@ -39,7 +35,7 @@ run() {
   local said='' status=0 answers errors signal
   for signal in INT TERM HUP; do trap "stop $signal" $signal; done
   exec {answers}>&1
-  exec {errors}< <(exec "${command[@]}" 2>&1 >&"$answers" <&"$1" {answers}>&-)
+  exec {errors}< <(exec "$here/../$program" 2>&1 >&"$answers" <&"$1" {answers}>&-)
   IFS= read -r -d '' said <&"$errors" || true
   wait $! || status=$?
   exec {answers}>&- {errors}<&-

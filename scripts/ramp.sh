@@ -17,8 +17,7 @@
 #
 # Time is simulated: a ramp takes 1 to 2 seconds and --all about 15. The first one proves and builds replay before, which takes minutes.
 #
-# REPLAY names another program to be tested, from where you stand. REPLAY=scripts/replay is the shipped build; under the emulator of
-# another processor than x86-64 a ramp of it takes 5 to 10 minutes, and --all an hour or more.
+# REPLAY names another program to be tested, from where you stand. REPLAY=scripts/replay is the shipped build, by its command.
 #
 # Exit status: 0 passed, 1 failed, 2 wrong use, 3 passed, but fewer packets a second were sent than were asked for.
 set -eu
@@ -75,7 +74,7 @@ done
 # The program under test. Both builds of our own are made from the tree as it stands.
 program=${REPLAY:-$(here "$root/target/native")/replay}
 case $(readlink -m -- "$(command -v -- "$program" || echo "$program")") in
-  "$root/scripts/replay") build=shipped hashed=$root/target/bin/replay ;;
+  "$root/scripts/replay") build=shipped hashed=$root/crates/replay/out/replay ;;
   "$(readlink -m "$root/target/native")/replay") build=native hashed=$root/target/native/replay ;;
   *) build=other hashed=$(command -v -- "$program" || true) ;;
 esac
@@ -87,12 +86,13 @@ fi
 (cd "$root/rust" && cargo build -p soak --release --quiet) >&2
 
 # What the report says of where it was made. What can't be had stays unknown.
-tools=$(dirname "$(dirname "$(rt doc 2>/dev/null)")" 2>/dev/null) || tools=
+kit=$(dirname "$(rt doc 2>/dev/null)" 2>/dev/null) || kit=
 processor=$(lscpu 2>/dev/null | sed -n 's/^Model name: *//p' | head -n 1)
 export RAMP_HOST="$(uname -n), ${processor:-processor unknown} ($(uname -m)), $(nproc) cores, $(uname -sr)"
-export RAMP_KIT=$(head -n 1 "$tools/KIT-ID" 2>/dev/null || true)
-clang=$("$tools/on/$(uname -m)/toolchain/bin/clang" --version 2>/dev/null | head -n 1 || true)
-export RAMP_COMPILERS="$(rustc --version 2>/dev/null || echo 'rustc unknown') for ramp and library, ${clang:-clang unknown} (the kit's) for replay, $(gcc --version 2>/dev/null | head -n 1 || echo 'gcc unknown') links it"
+export RAMP_KIT=$(head -n 1 "$kit/KIT-ID" 2>/dev/null || true)
+clang=$("$kit/toolchain/bin/clang" --version 2>/dev/null | head -n 1 || true)
+lld=$("$kit/toolchain/bin/ld.lld" --version 2>/dev/null | sed -n "1s/ (.*//p" || true)
+export RAMP_COMPILERS="$(rustc --version 2>/dev/null || echo 'rustc unknown') for ramp and library, ${clang:-clang unknown} (the kit's) for replay, ${lld:-lld unknown} (the kit's) links it"
 export RAMP_COMMIT= RAMP_BUILD=$build RAMP_HASH=
 if [ "$(git -C "$root" rev-parse --show-toplevel 2>/dev/null)" = "$root" ]; then
   changed=$(git -C "$root" status --porcelain | wc -l)

@@ -9,8 +9,6 @@ set -eu
 help_asked "$@"
 takes_nothing "$@"
 needed=(librust-proptest-dev librust-criterion-dev g++)
-# The archive for C is x86-64's: elsewhere its tests are compiled across, and run under the kit's emulator.
-[ "$(uname -m)" = x86_64 ] || needed+=(gcc-x86-64-linux-gnu libc6-dev-amd64-cross)
 # One setup at a time on a machine: apt-get doesn't wait for another
 exec 8</var/lib/dpkg
 flock 8

@@ -6,7 +6,7 @@ set -u
 cd "$(dirname "$0")/.."
 passed=0
 failed=0
-[ -x target/bin/replay ] || rt check replay >/dev/null
+[ -x crates/replay/out/replay ] || scripts/native.sh replay >/dev/null
 work=$(mktemp -d)
 trap 'rm -rf "$work"' EXIT
 

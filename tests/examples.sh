@@ -67,7 +67,7 @@ sed -n '/^## The calls/,/^## The refusals/s/^| `.* | \([0-9].*\) |$/\1/p' docs/R
 said() { sed -n "s/^-- \"$1: \([^.]*\)\.\".*/\1/p" crates/bearer/specs/Refusals.antt; }
 rows() { sed -n "/^$1 /,/\[\]/s/.*(\([0-9]*\) when .*/\1/p" crates/bearer/specs/Refusals.antt | paste -sd , | sed 's/,/, /g'; }
 {
-  said Open; said Arrival; rows expiryRefusals # request Six says its order among other words
+  said Open; said Arrival; rows expiry_refusals # request Six says its order among other words
   for call in Confirm Status Send 'Accepting a status' Take; do said "$call"; done
 } >"$work/found"
 alike "REPLAY.md, the order of refusals"

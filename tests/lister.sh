@@ -18,7 +18,7 @@ is() {
 
 lister() { scripts/lister; }
 
-[ -x target/bin/lister ] || rt check lister >/dev/null
+[ -x crates/lister/out/lister ] || scripts/native.sh lister >/dev/null
 
 # document 01's sample, and the bench sheet's frames
 printf '001234000000\n110078000100000000100001000700090000\n400000000000\n' | lister | is sample '0\t4660\n1\t120\t65536\t4096\t0\t7-9\nrefused\t2\n'

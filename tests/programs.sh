@@ -7,7 +7,7 @@ passed=0
 failed=0
 work=$(mktemp -d)
 trap 'rm -rf "$work"' EXIT
-for name in lister replay; do [ -x "$root/target/bin/$name" ] || (cd "$root" && rt check "$name" >/dev/null); done
+for name in lister replay; do [ -x "$root/crates/$name/out/$name" ] || "$root/scripts/native.sh" "$name" >/dev/null; done
 cd "$work" || exit 1
 
 # ends STATUS WHAT COMMAND..: runs it, and holds its status to that one
@@ -30,30 +30,32 @@ same() {
   if cmp -s <(printf '%b' "$2") "$3"; then passed=$((passed + 1)); else failed=$((failed + 1)); echo "programs: $what: $1"; head -n 5 "$3"; fi
 }
 
-# ---- the commands, with a stand-in: a kit whose loader runs the text of STAND_IN, and a copy of scripts/
+# ---- the commands, with stand-ins: programs that run the text of STAND_IN, and a kit whose rt says RT_SAYS in crates, beside a copy of scripts/
 
-mkdir -p copy kit/bin "kit/on/$(uname -m)/toolchain/lib"
+mkdir -p copy kit/bin
 cp -r "$root/scripts" copy/scripts
 cat >kit/bin/rt <<END
 #!/bin/sh
 case \$1 in
-doc) echo "$work/kit/docs/START-HERE.md" ;;
-check) printf '%b' "\$RT_SAYS"; exit "\$RT_STATUS" ;;
+doc) echo "$work/kit/START-HERE.md" ;;
+lib | run) printf '%b' "\$RT_SAYS"; exit "\$RT_STATUS" ;;
 esac
 END
-printf '#!/usr/bin/env bash\neval "$STAND_IN"\n' >"kit/on/$(uname -m)/toolchain/lib/ld-linux-x86-64.so.2"
+touch kit/KIT-ID kit/WHAT
 printf '#!/usr/bin/env bash\nPATH=%q:$PATH STAND_IN=$1 exec "${@:2}"\n' "$work/kit/bin" >with
-chmod +x with kit/bin/rt kit/on/*/toolchain/lib/*
+chmod +x with kit/bin/rt
 lister=copy/scripts/lister
 replay=copy/scripts/replay
 
 ends 1 "not built: lister" ./with cat $lister
-said 'lister: target/bin/lister isn'"'"'t built; "scripts/demo.sh" builds it (about 2 minutes the first time)\n'
+said 'lister: crates/lister/out/lister isn'"'"'t built; "scripts/demo.sh" builds it (about 2 minutes the first time)\n'
 ends 1 "not built: replay" ./with cat $replay
-said 'replay: target/bin/replay isn'"'"'t built; "rt check replay" builds it (about 5 minutes the first time)\n'
-mkdir -p copy/target/bin
-touch copy/target/bin/lister copy/target/bin/replay
-chmod +x copy/target/bin/*
+said 'replay: crates/replay/out/replay isn'"'"'t built; "scripts/native.sh replay" builds it (about 5 minutes the first time)\n'
+for name in lister replay; do
+  mkdir -p copy/crates/$name/out
+  printf '#!/usr/bin/env bash\neval "$STAND_IN"\n' >copy/crates/$name/out/$name
+done
+chmod +x copy/crates/*/out/*
 
 echo one >1
 echo two >2
@@ -111,23 +113,30 @@ said 'lister: none: No such file or directory\nlister: 1: ended with status 3\n'
 ends 0 "a closed pipe doesn't kill the program" ./with 'trap -p PIPE; kill -s PIPE $$; echo lives' $lister <1
 wrote "trap -- '' SIGPIPE\nlives\n"
 
-# the demo: what it has proved as it goes, and where it isn't proved what rt says
+# the demo: what it has proved as it goes, lowest first, and where it isn't proved what rt says
 sample='001234000000\n110078000100000000100001000700090000\n400000000000\n'
-printf '# a note\nbelow: io\nbeside:\nlister: below io\n' >copy/crates.txt
+printf '# a note\nlister: below io\nbeside:\nbelow: io\n' >copy/crates.txt
+mkdir -p copy/crates/below/src
+touch copy/crates/below/src/lib.rt
 demo() { RT_STATUS=$1 RT_SAYS=$2 ./with cat copy/scripts/demo.sh; }
 export -f demo
-ends 0 "the demo" bash -c 'demo "$@"' demo 0 'a line\nrt: below proved (3 s)\nrt: lister proved (41 s)\nrt: lister ran\n'
+ends 0 "the demo" bash -c 'demo "$@"' demo 0 'a line\nlogic=proved functions=2\n'
+wrote "$sample--\n$sample"
+sed -i -e 1d -e 's/([0-9]* s)/(N s)/' err
+said '  1/2 below proved (N s)\n  2/2 lister proved (N s)\n'
+ends 0 "the demo again" bash -c 'demo "$@"' demo 1 'not asked\n'
 wrote "$sample--\n$sample"
 sed -i 1d err
-said '  1/2 below proved (3 s)\n  2/2 lister proved (41 s)\n'
-again='proved (unchanged since it was last proved)\n'
-ends 0 "the demo again" bash -c 'demo "$@"' demo 0 "rt: below ${again}rt: lister $again"
+said '  all 2 were proved before, and nothing has changed since\n'
+echo changed >copy/crates/below/src/lib.rt
+ends 0 "the demo of what rt knows" bash -c 'demo "$@"' demo 0 'rt: nothing has changed since the last proved build\n'
 sed -i 1d err
 said '  all 2 were proved before, and nothing has changed since\n'
-ends 1 "a demo that isn't proved" bash -c 'demo "$@"' demo 1 'why not\nrt: below NOT PROVED (exit 1, 2 s)\n'
+echo changed again >copy/crates/below/src/lib.rt
+ends 1 "a demo that isn't proved" bash -c 'demo "$@"' demo 1 'why not\nlogic=not-proved\n'
 wrote ''
 sed -i 1d err
-said "why not\nrt: below NOT PROVED (exit 1, 2 s)\ndemo.sh: the lister isn't proved or isn't built\n"
+said "why not\nlogic=not-proved\ndemo.sh: the lister isn't proved or isn't built\n"
 
 # a signal that comes to the command, or to it and the program, ends both
 for whom in command both; do
@@ -154,9 +163,6 @@ printf '001234000000\n400000000000' >frames
 printf 'open\t12\t0\t0\nsend\t0\t40' >calls
 { head -n 1 frames && yes "$(head -n 1 frames)" | head -n 29999; } >frames.many
 { head -n 1 calls && yes take | head -n 29999; } >calls.many
-. "$root/scripts/kit.sh"
-loaded=("$tools/lib/ld-linux-x86-64.so.2" --library-path "$tools/lib")
-[ ! -x "$tools/bin/qemu-x86_64" ] || loaded=("$tools/bin/qemu-x86_64" "${loaded[@]}")
 ends 0 "frames of files" "$lister" frames frames
 wrote '0\t4660\nrefused\t2\n0\t4660\nrefused\t2\n'
 said ''
@@ -177,7 +183,7 @@ for name in lister replay; do
   ends 1 "$name: a folder as standard input" "$command" <folder
   said "$name: lines answered: 0; reading failed, error 21: Is a directory\n"
 
-  ends 0 "$name: the program itself, with an argument" "${loaded[@]}" "$root/target/bin/$name" $input
+  ends 0 "$name: the program itself, with an argument" "$root/crates/$name/out/$name" $input
   wrote ''
   said "$name: takes no arguments; it reads standard input\n"
 

@@ -1,7 +1,7 @@
 #!/usr/bin/env bash
 # Property tests of the product beside the independent Rust implementation: codec and keeper through the C boundary, both ends
 # through replay, demand 3 on the product's own traces. Built for this machine's own processor it carries the million frames and
-# the million calls; the shipped build of replay, which may run under an emulator, 100,000 more.
+# the million calls; replay by its command 100,000 more.
 set -u
 cd "$(dirname "$0")/.."
 broken() { echo "property: $1"; echo "0 passed, 1 failed"; exit 1; }

@@ -31,11 +31,9 @@ impl Build {
     #[must_use]
     pub fn words(self) -> &'static str {
         match self {
-            Self::Shipped => {
-                "the shipped one, target/bin/replay for x86-64, run by the kit's loader (on another processor under its emulator)"
-            }
+            Self::Shipped => "the shipped one, crates/replay/out/replay, run by scripts/replay",
             Self::Native => {
-                "this processor's, target/native/replay: the same code built for it, not what is shipped"
+                "this processor's, target/native/replay: a copy of the shipped one, run by itself"
             }
             Self::Other => "neither the shipped one nor this processor's: another program",
             Self::Unknown => "unknown",

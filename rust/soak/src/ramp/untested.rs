@@ -32,7 +32,8 @@ const ALWAYS: [&str; 7] = [
 const STATUSES: &str = "Statuses lost, repeated, out of order or spoilt: each arrived once, in order, as demand 3 assumes.";
 
 /// True of a run of this processor's build.
-const SHIPPED: &str = "The shipped build, which REPLAY=scripts/replay plays: this run is of the same code for this processor.";
+const SHIPPED: &str =
+    "The command, which REPLAY=scripts/replay plays: this run is of the program by itself.";
 
 /// The lengths and the build that weren't played.
 fn lengths_and_build(report: &Report<'_>) -> Vec<String> {
