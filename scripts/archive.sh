@@ -44,4 +44,5 @@ diff "$work/header" "$work/defined" >&2 || broken "the header's functions (<) an
 [ ! -s "$work/undefined" ] || broken "the archive leaves undefined: $(tr '\n' ' ' <"$work/undefined")"
 
 cmp -s "$work/libx2u.a" "$out" || mv "$work/libx2u.a" "$out"
+if [ "$target" = "$own" ]; then native "target/$target/libx2u.a"; fi
 echo "$out"

@@ -1,7 +1,7 @@
 #!/usr/bin/env bash
 # native.sh NAME [TARGET]: proves a crate by rt, builds it for a processor, and prints the path of what it made.
 #
-# TARGET is x86-64 or aarch64; without it, or as `native`, it is this machine's own, which target/native leads to as well.
+# TARGET is x86-64 or aarch64; without it, or as `native`, it is this machine's own, of which target/native has copies.
 #   a static library   target/TARGET/staticlib/libNAME.a
 #   a program          target/TARGET/NAME, for this machine's own processor alone
 # The first time takes as long as the proofs, up to some minutes; with nothing changed a second, and nothing is proved or built again.
@@ -49,8 +49,5 @@ if ! is_built "$made"; then
   esac
   note "$made"
 fi
-if [ "$target" = "$own" ] && [ "$(readlink target/native)" != "$own" ]; then
-  rm -rf target/native
-  ln -s "$own" target/native
-fi
+if [ "$target" = "$own" ]; then native "$made"; fi
 echo "$PWD/$made"

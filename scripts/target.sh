@@ -10,3 +10,11 @@ target_named() {
   *) refuse "no target $1; there are ${targets// / and }, and native, this machine's own ($own)" ;;
   esac
 }
+
+# native FILE: a file of target/$own stands in target/native too, as a copy, since rt ci refuses a link anywhere in the checkout
+native() {
+  local copy=target/native/${1#target/"$own"/}
+  [ ! -L target/native ] || rm target/native
+  mkdir -p "$(dirname "$copy")"
+  cmp -s "$1" "$copy" || { cp "$1" "$copy.new" && mv "$copy.new" "$copy"; }
+}
