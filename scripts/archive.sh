@@ -2,9 +2,10 @@
 # archive.sh [TARGET]: the one archive that a program in C links, for a processor. Prints its path, as its only standard output.
 #
 # TARGET is one of these; without it, or as `native`, it is this machine's own:
-#   x86-64    target/x86-64/libx2u.a: the shipped build
+#   x86-64    target/x86-64/libx2u.a, the shipped build
 #   aarch64   target/aarch64/libx2u.a, of the same code compiled for 64-bit Arm
-# So on either   gcc -Iinclude examples/secondary.c "$(scripts/archive.sh)" -o secondary && ./secondary
+# So   gcc -Iinclude examples/secondary.c "$(scripts/archive.sh)" -o secondary && ./secondary
+# Of this machine's own there is a copy in target/native.
 #
 # It proves the crates c_calls_c and c_frames by rt, joins their objects and checks the whole. The first time takes about 5 minutes; with
 # nothing changed a second, and nothing is proved or built again. Says on standard error what it is doing.
@@ -17,7 +18,7 @@ cd "$(dirname "$(readlink -f "$0")")/.."
 [ $# -le 1 ] || refuse "takes one target"
 target=$(target_named "${1-native}")
 . scripts/kit.sh
-out=$PWD/target/$target/libx2u.a
+out=target/$target/libx2u.a
 work=$(mktemp -d)
 trap 'rm -rf "$work"' EXIT
 broken() { echo "archive.sh: $1" >&2; exit 1; }
@@ -43,6 +44,6 @@ nm -u "$work/libx2u.a" | sed -n 's/^ *[A-Za-z] //p' >"$work/undefined"
 diff "$work/header" "$work/defined" >&2 || broken "the header's functions (<) and the archive's global symbols (>) are not the same"
 [ ! -s "$work/undefined" ] || broken "the archive leaves undefined: $(tr '\n' ' ' <"$work/undefined")"
 
-cmp -s "$work/libx2u.a" "$out" || mv "$work/libx2u.a" "$out"
-if [ "$target" = "$own" ]; then native "target/$target/libx2u.a"; fi
-echo "$out"
+put "$work/libx2u.a" "$out"
+if [ "$target" = "$own" ]; then native "$out"; fi
+echo "$PWD/$out"

@@ -41,13 +41,22 @@ by_rt() {
   [ -f "$shipped" ] || { cat "$log" >&2; broken "rt built no $shipped"; }
 }
 
-if ! is_built "$made"; then
-  rm -f "$made"
-  case $target-$made in
-  *.a) by_rt lib --target "${target/x86-64/x86_64}-unknown-linux-gnu" && cp "$shipped" "$made" ;;
-  *) is_built "$shipped" || { by_rt run && note "$shipped"; } && cp "$shipped" "$made" ;;
-  esac
-  note "$made"
-fi
+case $made in
+*.a)
+  if ! is_built "$made"; then
+    by_rt lib --target "${target/x86-64/x86_64}-unknown-linux-gnu"
+    put "$shipped" "$made"
+    note "$made"
+  fi
+  ;;
+*)
+  # the kit's own is looked for, and not its copy: rt ci takes it away, and makes it only where all is proved
+  if ! is_built "$shipped"; then
+    by_rt run
+    note "$shipped"
+  fi
+  put "$shipped" "$made"
+  ;;
+esac
 if [ "$target" = "$own" ]; then native "$made"; fi
 echo "$PWD/$made"

@@ -1,4 +1,5 @@
-# Sourced behind help.sh: the processors that archives are made for, this machine's own among them (own), and what a word names of them.
+# Sourced behind help.sh at the top of the checkout: the processors that archives are made for, this machine's own among them (own), and what a
+# word names of them; and how what was built is put in its places.
 targets="x86-64 aarch64"
 own=$(uname -m | tr _ -)
 
@@ -11,10 +12,13 @@ target_named() {
   esac
 }
 
+# put FILE PLACE: copies it there, where it isn't there yet; who has opened what was there keeps that
+put() { cmp -s "$1" "$2" || { cp "$1" "$2.$$" && mv "$2.$$" "$2"; }; }
+
 # native FILE: a file of target/$own stands in target/native too, as a copy, since rt ci refuses a link anywhere in the checkout
 native() {
   local copy=target/native/${1#target/"$own"/}
   [ ! -L target/native ] || rm target/native
   mkdir -p "$(dirname "$copy")"
-  cmp -s "$1" "$copy" || { cp "$1" "$copy.new" && mv "$copy.new" "$copy"; }
+  put "$1" "$copy"
 }

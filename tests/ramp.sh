@@ -61,9 +61,10 @@ holds "the report knows where it was made" [ "$(grep -cE '^(Host|Kit|Compilers) 
 commit=unknown
 [ "$(git rev-parse --show-toplevel 2>/dev/null)" != "$(pwd -P)" ] || commit="$(git rev-parse HEAD), the tree is"
 holds "the report has the commit" grep -q "^Commit  *$commit" "$out/12.txt"
-ln -s "$PWD" "$out/link"
-(cd "$out/link" && REPLAY=scripts/replay scripts/ramp.sh --minutes 0.02 --report "$out/link.txt" --chart "$out/link.svg") >"$out/link.log" 2>&1
-rm "$out/link"
+links=$(mktemp -d) # outside: rt ci refuses a link that is left here
+ln -s "$PWD" "$links/root"
+(cd "$links/root" && REPLAY=scripts/replay scripts/ramp.sh --minutes 0.02 --report "$out/link.txt" --chart "$out/link.svg") >"$out/link.log" 2>&1
+rm -r "$links"
 holds "the shipped build is known through a link" grep -q '^  build  *the shipped one' "$out/link.txt"
 holds "the commit is known through a link" grep -q "^Commit  *$commit" "$out/link.txt"
 for sum in offered 'that had to wait' 'declared lost' 'spared by a mark' dropped 'octets sent' rests 'PDCP numbers used'; do
