@@ -44,7 +44,11 @@ by_rt() {
 case $made in
 *.a)
   if ! is_built "$made"; then
-    by_rt lib --target "${target/x86-64/x86_64}-unknown-linux-gnu"
+    # any processor of its kind, since an archive can't look which one it runs on
+    case $target in
+    x86-64) by_rt lib --target x86_64-unknown-linux-gnu --cpu x86-64 ;;
+    *) by_rt lib --target "$target-unknown-linux-gnu" ;;
+    esac
     put "$shipped" "$made"
     note "$made"
   fi

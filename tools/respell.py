@@ -71,9 +71,12 @@ OTHERWISE = {
 }
 # Fields among them, which stand behind a dot in a proof of a function too
 FIELDS = {"from-base", "most-runs", "most-records"}
-# ... where a crate's name is another crate's too
+# ... where what it would meet, or what it is, hangs on the crate
 OTHERWISE_IN = {
     ("bearer", "statusOf"): "account_status",
+    ("frame_reader", "statusOf"): "head_status",
+    ("frame_writer", "statusOf"): "head_status",
+    ("frame_list", "statusOf"): "head_status",
     ("replay_calls", "statusOf"): "status_call",
 }
 TOKEN = re.compile(r"[^\s(){}\[\].;:,@\"«»⌜⌝`'=<>&|!+*/#?\\]+'*")
@@ -148,8 +151,6 @@ def turned(text, rows, kept=(), seen=None, crate="", in_function=False):
         to = rows.get(word)
         if (crate, word) in OTHERWISE_IN:
             to = OTHERWISE_IN[crate, word]
-        elif word == "statusOf":
-            to = "account_status"
         if to is None:
             if seen is not None:
                 seen[word].add(word)
@@ -170,7 +171,8 @@ def tight(text):
 
 
 def in_source(text, rows, crate):
-    """A .rt file: where a function or a local of its own has the new name, the definition is imported as another, «NAME_of»."""
+    """A .rt file: where a function or a local of its own has the new name, the definition is imported as another, «NAME_of» or «the_NAME»."""
+    alias = lambda new: f"«the_{new}»" if new.endswith("_of") else f"«{new}_of»"
     aliases = set()
     for m in TOKEN.finditer(text):
         new = OTHERWISE_IN.get((crate, m[0]), rows.get(m[0]))
@@ -181,11 +183,11 @@ def in_source(text, rows, crate):
         if line.startswith("ghost use"):
             for old in aliases:
                 new = OTHERWISE_IN.get((crate, old), rows.get(old))
-                line = re.sub(rf"(?<=[{{ ]){re.escape(old)}(?=[,}}])", f"{new} as «{new}_of»", line)
+                line = re.sub(rf"(?<=[{{ ]){re.escape(old)}(?=[,}}])", f"{new} as {alias(new)}", line)
         else:
             for old in aliases:
                 new = OTHERWISE_IN.get((crate, old), rows.get(old))
-                line = re.sub(rf"(?<![\w.:«-]){re.escape(old)}(?![\w'»-])", f"«{new}_of»", line)
+                line = re.sub(rf"(?<![\w.:«-]){re.escape(old)}(?![\w'»-])", alias(new), line)
         lines.append(line)
     return re.sub(r"«([a-z]\w*)»", lambda m: f"«{snake(m[1])}»", "\n".join(lines))
 

@@ -7,8 +7,8 @@
 -- packets that were confirmed to the secondary when it built the frame and whose every predecessor was by then confirmed or
 -- reported lost in that frame or an earlier one."
 --
--- What may happen, and what each event does, is World.antt. The statement is `Demand3`, at the end; it is proved in
--- proofs/Joint/Demand3.antt.
+-- What may happen, and what each event does, is World.antt. The statement is `Demand3`, at the end, and beside it `AnythingKept`, of the question
+-- whether there is anything to say; both are proved in proofs/Joint/Demand3.antt.
 -- Assumes nothing.
 use Rattle.std.specs.Prelude.{◌≡◌, Bool, true, false, List, [], ◌∷◌, ◌++◌, map, ◌⊎◌, ◌↔◌, ℕ, zero, suc, ◌+◌, ◌-◌, ◌^◌, ◌≤◌, ◌<◌, ltb, eqb, length, get_or, take}
 use Rattle.basics.specs.Basics.{Outcome, done, refused, is_done}
@@ -106,10 +106,10 @@ FreedExactly L w = (i : ℕ) → In i w.freed ↔ Deserved L w i
 -- what a copy is answered, by whether its packet is open, lies before base, and lies M/2 before it: of an open packet, how many became lost; of
 -- one before base, that it is opposite, if M/2 before it, and else that it is late; of any other, that it has a record
 abbrev pub Answered : Bool → Bool → Bool → ℕ → Outcome ℕ → Type 0
-Answered true before half-before c a = a ≡ done c
+Answered true before half_before c a = a ≡ done c
 Answered false true true c a = a ≡ refused 18
 Answered false true false c a = a ≡ refused 11
-Answered false false half-before c a = a ≡ refused 12
+Answered false false half_before c a = a ≡ refused 12
 
 -- until the secondary has built a frame with Final it takes each copy of an open packet and answers how many our rule declares lost by it; of the
 -- others it refuses with 18 exactly those whose packet lies M/2 before base, with 11 any other whose packet lies before base (every lost one
@@ -151,9 +151,9 @@ AnythingAnswered L first w =
     ⊎ ((had_final w.built ≡ false) × (AllSaid L first w → ⊥) × (K.anything w.keeper ≡ done true))
 
 -- "Final closes this end": the secondary is closed exactly if it has built a frame with Final, and the master exactly if it has accepted one
-pub record FinalCloses (secondary-closed master-closed : Bool) (built : List Built) (delivered : ℕ) : Type 0 where
-  pub secondary : secondary-closed ≡ had_final built
-  pub master : master-closed ≡ had_final (take delivered built)
+pub record FinalCloses (secondary_closed master_closed : Bool) (built : List Built) (delivered : ℕ) : Type 0 where
+  pub secondary : secondary_closed ≡ had_final built
+  pub master : master_closed ≡ had_final (take delivered built)
 
 -- what holds of a world
 pub record Kept (L first : ℕ) (w : World) : Type 0 where

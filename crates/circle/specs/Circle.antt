@@ -116,7 +116,7 @@ module _ (M : ℕ) (pos : 0 < M) where
   pub one_nearer : (a b : ℕ) → a < M → b < M → (a ≢ b) → forward M a b ≡ suc (forward M ((a + 1) % M) b)
   one_nearer a b ha hb apart =
       let next : forward M a ((a + 1) % M) ≡ 1 = forward_to a (a + 1) ∙ forward_short a 1 (omega arith) in
-      let some-way : 0 < forward M a b = by (forward M a b) refl in
+      let some_way : 0 < forward M a b = by (forward M a b) refl in
       let rest = forward_rest a ((a + 1) % M) b (mod-lt (a + 1) pos) hb (omega arith) in
       omega arith
     where

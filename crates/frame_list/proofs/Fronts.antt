@@ -13,7 +13,7 @@ use lib.Seq.{take-length, take-suc, take-suc-set}
 use Rattle.frame_layout.specs.Frames.{most_ranges, ranges_of, write_status}
 use Rattle.frame_layout.specs.Frames as frames
 use Rattle.frame_writer.specs.declared.Head.{Head}
-use Rattle.frame_writer.specs.Answers.{account_status}
+use Rattle.frame_writer.specs.Answers.{head_status}
 use Rattle.frame_list.specs.declared.Range.{Range}
 use Rattle.frame_list.specs.Lists.{range_of, ranges_in, places, range_at, column, table_of, carried_or, shown}
 
@@ -49,9 +49,9 @@ module _ (h : Head) (rs : List Range) (d : List ℕ) where
   abbrev shown_by : Bool → List frames.Range
   shown_by b = let m = if b then places else length rs in let t = table_of rs (if b then 0 else length rs) in ranges_of (take m t.starts) (take m t.ends)
 
-  same_by : (b : Bool) → ltb most_ranges (length rs) ≡ b → write_status (account_status h (shown_by b)) d ≡ write_status (account_status h (ranges_in rs)) d
+  same_by : (b : Bool) → ltb most_ranges (length rs) ≡ b → write_status (head_status h (shown_by b)) d ≡ write_status (head_status h (ranges_in rs)) d
   same_by true more = rw (length-map rs range_of, more)
-  same_by false few = ap (λ (l : List frames.Range). write_status (account_status h l) d) (both ∙ ranges_joined rs)
+  same_by false few = ap (λ (l : List frames.Range). write_status (head_status h l) d) (both ∙ ranges_joined rs)
     where
       fits : length rs ≤ most_ranges
       fits = ltb-false most_ranges (length rs) few
@@ -60,5 +60,5 @@ module _ (h : Head) (rs : List Range) (d : List ℕ) where
       both i = ranges_of (carried fits (λ r. r.start) i) (carried fits (λ r. r.end) i)
 
   -- what the writer is shown is written as the list is
-  pub same_written : write_status (shown h (length rs) (table_of rs (carried_or (length rs) 0))) d ≡ write_status (account_status h (ranges_in rs)) d
+  pub same_written : write_status (shown h (length rs) (table_of rs (carried_or (length rs) 0))) d ≡ write_status (head_status h (ranges_in rs)) d
   same_written = same_by (ltb most_ranges (length rs)) refl

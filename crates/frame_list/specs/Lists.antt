@@ -4,7 +4,7 @@ use Rattle.std.specs.Prelude.{List, map, ℕ, zero, suc, ltb, get_or, set, take,
 use Rattle.frame_layout.specs.Frames.{Status, ranges_of, most_ranges}
 use Rattle.frame_layout.specs.Frames as frames
 use Rattle.frame_writer.specs.declared.Head.{Head}
-use Rattle.frame_writer.specs.Answers.{account_status}
+use Rattle.frame_writer.specs.Answers.{head_status}
 use Rattle.frame_list.specs.declared.Range.{Range}
 use Rattle.frame_list.specs.declared.Table.{Table}
 
@@ -49,4 +49,4 @@ carried_or n other = if ltb most_ranges n then other else n
 
 -- the status that the writer is shown of a list of n ranges, as they stand in a table
 abbrev pub shown : Head → ℕ → Table → Status
-shown h n t = account_status h (ranges_of (take (carried_or n places) t.starts) (take (carried_or n places) t.ends))
+shown h n t = head_status h (ranges_of (take (carried_or n places) t.starts) (take (carried_or n places) t.ends))

@@ -4,8 +4,8 @@
 
 ghost use Rattle.std.specs.Prelude.{◌≡◌, ◌≤◌, ◌<◌, length};
 ghost use Rattle.frame_layout.specs.Frames.{write_status as «write_status_of»};
-ghost use Rattle.frame_writer.specs.Answers.{left, account_status};
-ghost use Rattle.frame_list.specs.Lists.{ranges_in, range_at, empty_table, put_range, table_of as «table_of_of», carried_or as «carried_or_of», shown};
+ghost use Rattle.frame_writer.specs.Answers.{left, head_status};
+ghost use Rattle.frame_list.specs.Lists.{ranges_in, range_at, empty_table, put_range, table_of as «the_table_of», carried_or as «carried_or_of», shown};
 
 // The places of a table: one more than a status carries, so that a list that is too long is seen.
 const PLACES: usize = frame_layout::MOST_RANGES + 1;
@@ -80,7 +80,7 @@ fn taken(ranges: &[Range], i: usize, t: Table) -> Table
 // A table with the first n ranges of a list.
 fn table_of(ranges: &[Range], n: usize) -> Table
     requires { n ≤ length ranges.now }
-    ensures { result ≡ «table_of_of» ranges.now n }
+    ensures { result ≡ «the_table_of» ranges.now n }
 {
     let mut t = empty();
     let mut i = 0;
@@ -97,7 +97,7 @@ pub fn write_status(
     ranges: &[Range],
     dst: &mut [u8],
 ) -> frame_writer::Wrote
-    ensures { left result dst.new ≡ «write_status_of» (account_status head (ranges_in ranges.now)) dst.old }
+    ensures { left result dst.new ≡ «write_status_of» (head_status head (ranges_in ranges.now)) dst.old }
 {
     let n = ranges.len();
     // A list that no status carries is refused whatever its ranges are: none is copied.

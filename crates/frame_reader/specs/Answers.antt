@@ -21,8 +21,8 @@ abbrev pub ranges_from : List ℕ → Cursor → List frames.Range
 ranges_from s c = ranges_at s (width c.long) c.place c.left
 
 -- the status that a head says, its ranges out of the frame that was read
-abbrev pub account_status : List ℕ → Head → frames.Status
-account_status s h = record {
+abbrev pub head_status : List ℕ → Head → frames.Status
+head_status s h = record {
   long = h.long;
   final = h.last;
   highest = h.highest;
@@ -34,7 +34,7 @@ account_status s h = record {
 -- the reading that an answer stands for
 abbrev pub reading_of : List ℕ → Frame → Reading
 reading_of s (Data long n) = data_of long n
-reading_of s (Status h) = status_of (account_status s h)
+reading_of s (Status h) = status_of (head_status s h)
 reading_of s (Refused n) = refuse n
 
 -- the frame holds them all

@@ -17,8 +17,8 @@ abbrev pub left : Wrote → List ℕ → Written
 left r d = record { answer = outcome_of r; buffer = d }
 
 -- the status that a head and ranges say
-abbrev pub account_status : Head → List Range → Status
-account_status h rs = record {
+abbrev pub head_status : Head → List Range → Status
+head_status h rs = record {
   long = h.long;
   final = h.last;
   highest = h.highest;

@@ -6,7 +6,7 @@ ghost use Rattle.basics.specs.Basics.{all};
 ghost use Rattle.frame_layout.specs.Octets.{octets};
 ghost use Rattle.frame_layout.specs.Frames.{ranges_of, range_octets, list_octets, first_octet as «first_octet_of», in_form, most_ranges, most_octets, width, status_type, status_fields, write_data as «write_data_of», write_status as «write_status_of»};
 ghost use Rattle.basics.specs.Laid.{Room, Laid};
-ghost use Rattle.frame_writer.specs.Answers.{left, account_status};
+ghost use Rattle.frame_writer.specs.Answers.{left, head_status};
 ghost use Rattle.frame_writer.specs.Lengths.{status_length as «status_length_of»};
 
 // What a status says before its list.
@@ -55,7 +55,7 @@ fn write_data_in(long: bool, number: u32, dst: &mut [u8]) -> Wrote
 
 // A status frame: type 1, or 2 in the long form. Range i is starts[i] to ends[i], as many as there are of both.
 pub fn write_status(head: Head, starts: &[u32], ends: &[u32], dst: &mut [u8]) -> Wrote
-    ensures { left result dst.new ≡ «write_status_of» (account_status head (ranges_of starts.now ends.now)) dst.old }
+    ensures { left result dst.new ≡ «write_status_of» (head_status head (ranges_of starts.now ends.now)) dst.old }
 {
     let long = head.long;
     if frame_layout::most_highest(long) < head.highest {
@@ -235,8 +235,8 @@ fn put_head(head: Head, listed: bool, dst: &mut [u8]) -> usize
 
 // All that stands before the padding.
 fn put_status(head: Head, starts: &[u32], ends: &[u32], count: usize, dst: &mut [u8]) -> usize
-    requires { (count ≡ length (ranges_of starts.now ends.now)) × (count ≤ most_ranges) × Room dst.old 0 (length (status_fields (account_status head (ranges_of starts.now ends.now)))) }
-    ensures { Laid dst.old 0 (status_fields (account_status head (ranges_of starts.now ends.now))) result dst.new }
+    requires { (count ≡ length (ranges_of starts.now ends.now)) × (count ≤ most_ranges) × Room dst.old 0 (length (status_fields (head_status head (ranges_of starts.now ends.now)))) }
+    ensures { Laid dst.old 0 (status_fields (head_status head (ranges_of starts.now ends.now))) result dst.new }
 {
     let at = put_head(head, 0 < count, dst);
     put_list(head.long, starts, ends, count, dst, at)

@@ -7,7 +7,7 @@ ghost use Rattle.basics.specs.Basics.{bit, ◌and◌};
 ghost use Rattle.circle.specs.Lengths.{modulus};
 ghost use Rattle.frame_layout.specs.Frames.{Range, starts_of, ends_of};
 ghost use Rattle.bearer.specs.Losses.{before, is_beyond, floor_behind, bears_before, offsets, raised_base as «raised_base_of»};
-ghost use Rattle.bearer.specs.Keeper.{Record, numbers_of, limit_of as «limit_of_of», base_arrived};
+ghost use Rattle.bearer.specs.Keeper.{Record, numbers_of, limit_of as «the_limit_of», base_arrived};
 ghost use Rattle.keeper_state.specs.State.{state_of, state_in, Fronts};
 ghost use Rattle.keeper_judge.specs.Judgements.{adjoins_last, none_lost as «none_lost_of», Losing, Reaches, JudgesArrival, JudgesPlace, JudgesExpiry, JudgesGaps};
 
@@ -188,7 +188,7 @@ fn floor(numbers: &[u32], starts: &[u32], base: u32, long: bool) -> u32
 
 // An arrival gives up what is 256 or more below it.
 fn limit_of(distance: u32) -> u32
-    ensures { result ≡ «limit_of_of» distance }
+    ensures { result ≡ «the_limit_of» distance }
 {
     if distance < WINDOW {
         0
@@ -206,7 +206,7 @@ fn arrived_base(
     distance: u32,
     lost: Losses,
 ) -> u32
-    requires { (place ≤ length numbers.now) × (distance < 2 ^ 24) × (lost.limit ≡ «limit_of_of» distance) × Reaches lost (modulus long) base numbers.now }
+    requires { (place ≤ length numbers.now) × (distance < 2 ^ 24) × (lost.limit ≡ «the_limit_of» distance) × Reaches lost (modulus long) base numbers.now }
     ensures { result ≡ base_arrived (modulus long) base numbers.now place distance }
 {
     if distance == 0 {

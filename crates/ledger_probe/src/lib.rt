@@ -66,8 +66,8 @@ pub extern "C" fn probe_ledger_room(bits: u32, entries: u32, turns: u32, frame: 
 }
 
 // A filled ledger after a frame was accepted so many times, and what was answered together. All who want such a ledger call this,
-// and none calls `accept` besides: with two places that call it the compiler takes it into neither, and a frame takes 2 µs in place
-// of 0.3 (measured on x86-64).
+// and none calls `accept` besides: with two places that call it the compiler took it into neither, and a frame took 2 µs in place
+// of 0.3 (measured on x86-64 with an older kit).
 fn accept_turns(bits: u32, entries: u32, turns: u32, frame: &[u8]) -> Told
     ensures { (ledger_in result.ledger ≡ left (accept_again frame.now) («filled_of» bits entries) 0 turns)
         × (result.sum ≡ total counts (accept_again frame.now) («filled_of» bits entries) 0 turns % 2 ^ 32) }
@@ -134,7 +134,8 @@ fn at_most(entries: u32) -> u32
 }
 
 // A ledger with so many packets sent, 512 at most, from number 0 and PDCP number 0 on. The compiler takes it into the loop of
-// accepts, by which a frame refused at once takes 120 ns a turn, the copy of a ledger, in place of 2 (measured on x86-64).
+// accepts, by which a frame refused at once took 120 ns a turn, the copy of a ledger, in place of 2 (measured on x86-64 with an
+// older kit).
 fn filled(bits: u32, entries: u32) -> Ledger
     ensures { ledger_in result ≡ «filled_of» bits entries }
 {

@@ -6,7 +6,7 @@ use Rattle.basics.specs.Basics.{all}
 use Rattle.basics.proofs.Laying.{laid_room}
 use Rattle.frame_layout.specs.Frames.{Status, most_highest, most_ranges, in_form, ranges_of, padding, padded, status_fields, place, write_status}
 use Rattle.frame_layout.proofs.Ranges.{ranges_count}
-use Rattle.frame_writer.specs.Answers.{account_status}
+use Rattle.frame_writer.specs.Answers.{head_status}
 use Rattle.frame_writer.specs.Lengths.{status_length}
 use Rattle.frame_writer.proofs.Lengths.{length_status}
 use Rattle.frame_writer.proofs.Placed.{placed, unplaced}
@@ -28,7 +28,7 @@ module _ (s : Status) where
 
 pub returns-then-count-gt-MOST_RANGES : goal.returns-then-count-gt-MOST_RANGES
 returns-then-count-gt-MOST_RANGES c =
-    let s = account_status c.args.head (ranges_of c.args.starts.now c.args.ends.now) in
+    let s = head_status c.args.head (ranges_of c.args.starts.now c.args.ends.now) in
     let said = count_said c.args.starts.now c.args.ends.now _ c.least-count.ensures in
     let within : s.highest ≤ most_highest s.long = omega arith in
     let above : most_ranges < length s.ranges = omega arith in
@@ -39,7 +39,7 @@ all_in_form-requires c = count_said c.args.starts.now c.args.ends.now _ c.least-
 
 pub returns-then-not-all_in_form : goal.returns-then-not-all_in_form
 returns-then-not-all_in_form c =
-    let s = account_status c.args.head (ranges_of c.args.starts.now c.args.ends.now) in
+    let s = head_status c.args.head (ranges_of c.args.starts.now c.args.ends.now) in
     let said = count_said c.args.starts.now c.args.ends.now _ c.least-count.ensures in
     let within : s.highest ≤ most_highest s.long = omega arith in
     let few : length s.ranges ≤ most_ranges = omega arith in
@@ -48,7 +48,7 @@ returns-then-not-all_in_form c =
 
 pub returns-then-dst-length : goal.returns-then-dst-length
 returns-then-dst-length c =
-    let s = account_status c.args.head (ranges_of c.args.starts.now c.args.ends.now) in
+    let s = head_status c.args.head (ranges_of c.args.starts.now c.args.ends.now) in
     let said = count_said c.args.starts.now c.args.ends.now _ c.least-count.ensures in
     let fields : length (status_fields s) ≡ c.status_length-length.result = fields_length s _ _ said c.status_length-length.ensures.0 in
     unplaced (status_fields s) c.args.dst.now (c.padding-zeros.ensures ∙ ap padding (sym fields)) (omega arith)
@@ -56,21 +56,21 @@ returns-then-dst-length c =
 
 pub put_status-at-requires : goal.put_status-at-requires
 put_status-at-requires c =
-    let s = account_status c.args.head (ranges_of c.args.starts.now c.args.ends.now) in
+    let s = head_status c.args.head (ranges_of c.args.starts.now c.args.ends.now) in
     let said = count_said c.args.starts.now c.args.ends.now _ c.least-count.ensures in
     let fields : length (status_fields s) ≡ c.status_length-length.result = fields_length s _ _ said c.status_length-length.ensures.0 in
     (said, omega arith, omega arith)
 
 pub put_zeros-end-requires : goal.put_zeros-end-requires
 put_zeros-end-requires c =
-    let s = account_status c.args.head (ranges_of c.args.starts.now c.args.ends.now) in
+    let s = head_status c.args.head (ranges_of c.args.starts.now c.args.ends.now) in
     let said = count_said c.args.starts.now c.args.ends.now _ c.least-count.ensures in
     let fields : length (status_fields s) ≡ c.status_length-length.result = fields_length s _ _ said c.status_length-length.ensures.0 in
     (omega arith, laid_room _ c.put_status-at.ensures (omega arith))
 
 pub returns : goal.returns
 returns c =
-    let s = account_status c.args.head (ranges_of c.args.starts.now c.args.ends.now) in
+    let s = head_status c.args.head (ranges_of c.args.starts.now c.args.ends.now) in
     let said = count_said c.args.starts.now c.args.ends.now _ c.least-count.ensures in
     let fields : length (status_fields s) ≡ c.status_length-length.result = fields_length s _ _ said c.status_length-length.ensures.0 in
     placed (status_fields s) c.args.dst.now (c.padding-zeros.ensures ∙ ap padding (sym fields)) (omega arith) c.put_status-at.ensures c.put_zeros-end.ensures

@@ -26,8 +26,8 @@ place_is c =
     let a = c.args in
     c.front-place.ensures ∙ ap (λ (M : ℕ). place_in M a.numbers.now a.number) (modulus_is c)
 
-place-within : (c : After-front-place) → c.front-place.result ≤ length c.args.numbers.now
-place-within c =
+place_within : (c : After-front-place) → c.front-place.result ≤ length c.args.numbers.now
+place_within c =
     let a = c.args in
     omega (arith, place_is c, front_within (ahead_of (modulus_in a.w) a.number) a.numbers.now)
 
@@ -66,7 +66,7 @@ reaches c = let es = c.args.ends.now in (c.lost_below-lost.ensures.1 (ranges_of 
 -- ---- the goals
 
 pub has_record-requires : goal.has_record-requires
-has_record-requires c = place-within (goal.at.has_record-requires c).After-front-place
+has_record-requires c = place_within (goal.at.has_record-requires c).After-front-place
 
 pub returns-then-has_record : goal.returns-then-has_record
 returns-then-has_record c =
@@ -111,7 +111,7 @@ arrived_base-base-requires c =
     let l = (goal.at.arrived_base-base-requires c).After-lost_below-lost in
     let a = c.args in
     let long = c.is_long-long.result in
-    (place-within at, omega (arith, c.distance-distance.ensures, modulus_bounds long, distance_below long a.w.base a.number), limit_is l, reaches l)
+    (place_within at, omega (arith, c.distance-distance.ensures, modulus_bounds long, distance_below long a.w.base a.number), limit_is l, reaches l)
 
 pub returns : goal.returns
 returns c =

@@ -20,8 +20,8 @@ use Rattle.keeper_judge.proofs.lost_below.Goals.{After-front-from, After-given_u
 -- ---- what is known there
 
 -- how many numbers stand in front of those at or past base
-from-within : (c : After-front-from) → c.front-from.result ≤ length c.args.numbers.now
-from-within c =
+from_within : (c : After-front-from) → c.front-from.result ≤ length c.args.numbers.now
+from_within c =
     let a = c.args in
     omega (arith, c.front-from.ensures, front_within (from_on (modulus a.long) a.base) a.numbers.now)
 
@@ -62,13 +62,13 @@ returns-then-limit-eq0 c =
     )
 
 pub offset_bounds-numbers-from : goal.offset_bounds-numbers-from
-offset_bounds-numbers-from c = omega (arith, from-within (goal.at.offset_bounds-numbers-from c).After-front-from, c.well_formed)
+offset_bounds-numbers-from c = omega (arith, from_within (goal.at.offset_bounds-numbers-from c).After-front-from, c.well_formed)
 
 pub slice_bounds-given_up-count : goal.slice_bounds-given_up-count
-slice_bounds-given_up-count c = from-within (goal.at.slice_bounds-given_up-count c).After-front-from
+slice_bounds-given_up-count c = from_within (goal.at.slice_bounds-given_up-count c).After-front-from
 
 pub slice_bounds-given_up-start : goal.slice_bounds-given_up-start
-slice_bounds-given_up-start c = from-within (goal.at.slice_bounds-given_up-start c).After-front-from
+slice_bounds-given_up-start c = from_within (goal.at.slice_bounds-given_up-start c).After-front-from
 
 pub runs_with-requires : goal.runs_with-requires
 runs_with-requires c = (omega (arith, c.if-gaps-eq0.false), count_fits (goal.at.runs_with-requires c).After-given_up-up)
@@ -81,6 +81,6 @@ returns c =
       refl,
       λ (runs : List Range) (seen : ends_of runs ≡ a.ends.now).
           some_losing (modulus a.long) a.base a.numbers.now runs c.given_up-up.result a.limit (tells up) _ refl
-          (record { within = from-within k; from_is = λ (h : 0 < a.limit). from_is k }) c.if-gaps-eq0.false refl
+          (record { within = from_within k; from_is = λ (h : 0 < a.limit). from_is k }) c.if-gaps-eq0.false refl
           (c.adjoins-joins.ensures ∙ ap₂ (adjoins_last (modulus a.long)) (sym seen) c.onward.ensures) (c.runs_with.ensures ∙ ap (λ (es : List ℕ). length es + c.given_up-up.result.gaps) (sym seen)),
     )
