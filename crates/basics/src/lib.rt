@@ -1,22 +1,8 @@
-// Leaves that every layer uses: the lesser of two counts, a number for yes or no, and the front of a lent array.
+// Leaves that every layer uses: what a flag says, and the front of a lent list.
 #![tactic(auto)]
 
-ghost use Rattle.std.specs.Prelude.{◌≡◌, min, take};
-ghost use Rattle.basics.specs.Basics.{bit, is_set as «is_set_of»};
-
-// The lesser of two counts.
-pub fn least(a: usize, b: usize) -> usize
-    ensures { result ≡ min a b }
-{
-    if a < b { a } else { b }
-}
-
-// A number for yes or no.
-pub fn flag(yes: bool) -> u32
-    ensures { result ≡ bit yes }
-{
-    if yes { 1 } else { 0 }
-}
+ghost use Rattle.std.specs.Prelude.{◌≡◌, take};
+ghost use Rattle.basics.specs.Basics.{is_set as «is_set_of»};
 
 // A number that isn't 0 is yes.
 pub fn is_set(word: u32) -> bool
@@ -25,22 +11,9 @@ pub fn is_set(word: u32) -> bool
     word != 0
 }
 
-// The octets at the front of a buffer: no more than it has.
-pub fn front(octets: &[u8], n: usize) -> &[u8]
-    ensures { result.now ≡ take n octets.now }
+// What stands at the front of a list: no more than it has.
+pub fn front<T>(items: &[T], n: usize) -> &[T]
+    ensures { result.now ≡ take n items.now }
 {
-    if n < octets.len() {
-        return &octets[..n];
-    }
-    octets
-}
-
-// The words at the front of an array: no more than it has.
-pub fn front_words(words: &[u32], n: usize) -> &[u32]
-    ensures { result.now ≡ take n words.now }
-{
-    if n < words.len() {
-        return &words[..n];
-    }
-    words
+    &items[..n.min(items.len())]
 }

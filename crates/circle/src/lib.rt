@@ -13,7 +13,7 @@ ghost use Rattle.circle.specs.Lengths.{modulus as «modulus_of», is_length as �
 pub fn forward(a: u32, b: u32, bits: u32) -> u32
     ensures { result ≡ «forward_of» (2 ^ min bits 32) a b }
 {
-    let d = std::num::wrapping_sub_u32(b, a);
+    let d = b.wrapping_sub(a);
     if bits < 32 {
         d & ((1u32 << bits) - 1)
     } else {
@@ -22,6 +22,8 @@ pub fn forward(a: u32, b: u32, bits: u32) -> u32
 }
 
 // ---- X2-U numbers, by the form
+
+// The form stays one bool and L a number, as the definitions have them: an enum would put a map between each contract and them, and any word is an L.
 
 // M: X2-U numbers are below it.
 pub fn modulus(long: bool) -> u32
@@ -51,11 +53,11 @@ pub fn distance(a: u32, b: u32, long: bool) -> u32
 pub fn onward(number: u32, distance: u32, long: bool) -> u32
     ensures { result ≡ (number + distance) % «modulus_of» long }
 {
-    std::num::wrapping_add_u32(number, distance) & (modulus(long) - 1)
+    number.wrapping_add(distance) & (modulus(long) - 1)
 }
 
 // How one X2-U number lies to another.
-#[derive(Drop)]
+#[derive(Clone, Copy, Debug, PartialEq, Eq)]
 pub enum Side {
     Same,
     Ahead,
@@ -87,47 +89,29 @@ pub fn lies(from: u32, number: u32, long: bool) -> Side
 pub fn is_length(bits: u32) -> bool
     ensures { result ≡ «is_length_of» bits }
 {
-    if bits == 12 {
-        return true;
-    }
-    if bits == 15 {
-        return true;
-    }
-    bits == 18
+    matches!(bits, 12 | 15 | 18)
 }
 
 // L, as a word of any content says it.
 pub fn length_in(bits: u32) -> u32
     ensures { (result ≡ «length_in_of» bits) × (result < 32) }
 {
-    if bits == 12 {
-        return 12;
+    match bits {
+        12 | 15 => bits,
+        _ => 18,
     }
-    if bits == 15 {
-        return 15;
-    }
-    18
 }
 
 // Whether the form is long.
 pub fn is_long(bits: u32) -> bool
     ensures { result ≡ «is_long_of» («length_in_of» bits) }
 {
-    if bits == 12 {
-        return false;
-    }
-    bits != 15
+    !matches!(bits, 12 | 15)
 }
 
 // 2^L: PDCP numbers are below it.
 pub fn pdcps(bits: u32) -> u32
     ensures { result ≡ «pdcps_of» («length_in_of» bits) }
 {
-    if bits == 12 {
-        return 4096;
-    }
-    if bits == 15 {
-        return 32768;
-    }
-    262144
+    1 << length_in(bits)
 }
