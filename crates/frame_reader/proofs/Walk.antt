@@ -1,16 +1,11 @@
 -- The walk over a status's ranges, for a caller's loop: from the cursor that `first_range` gives, `next_range` answers
 -- the status's ranges one after another, and then that none is left.
 -- Assumes nothing.
-use Rattle.std.specs.Prelude.{if◌then◌else◌}
-use mathlib.Core.Bool.{Bool, true, false}
-use mathlib.Core.List.{List, [], ◌∷◌}
-use mathlib.Core.Path.{◌≡◌, refl, sym, ◌∙◌, ap}
-use Prim.Native.Nat.{ℕ, zero, suc, ◌+◌, ◌-◌, ◌*◌, ◌%◌, ◌≤◌, ◌<◌}
-use native.Mathlib.Omega.{arith}
-use borrow.Author.Tests.{le-ltb, ltb-false}
-use lib.Dec.{ltb, eqb-suc-zero}
-use lib.ListN.{length, get_or}
+use Rattle.std.proofs.Common.{◌≡◌, ℕ, zero, suc, ◌+◌, ◌-◌, ◌*◌, ◌%◌, ◌≤◌, ◌<◌, Bool, true, false, List, [], ◌∷◌, Some, None, length, get_or, ltb, if◌then◌else◌, refl, sym, ◌∙◌, ap, arith}
+use Rattle.std.proofs.lemmas.Bool.{le-ltb, ltb-false}
+use Rattle.std.proofs.Math.Dec.{eqb-suc-zero}
 use Rattle.frame_layout.specs.Octets.{field}
+use Rattle.frame_layout.specs.Types.{range_of}
 use Rattle.frame_layout.specs.Frames.{Range, Status, status_of, most_ranges, width, list_at, count_at, ranges_at, read_frame, listed_in, count_in}
 use Rattle.frame_layout.specs.Trips.{AreOctets, GoodLength, Frame as Framed, status_frame, reading_of as meant}
 use Rattle.circle.specs.Lengths.{modulus}
@@ -20,14 +15,14 @@ use Rattle.frame_layout.proofs.Read.{few_read, Read, as_data, as_status, frame_r
 use Rattle.frame_reader.specs.declared.Head.{Head}
 use Rattle.frame_reader.specs.declared.Frame.TheVariants as frame
 use Rattle.frame_reader.specs.declared.Cursor.{Cursor}
-use Rattle.frame_reader.specs.declared.Step.TheVariants as step
-use Rattle.frame_reader.specs.Answers.{reading_of, cursor_of, next_in, ranges_from, Held, there}
+use Rattle.frame_reader.specs.declared.Step.{Step}
+use Rattle.frame_reader.specs.Answers.{reading_of, cursor_of, range_in, next_in, ranges_from, Held, there}
 use Rattle.frame_reader.proofs.Unique.{same_status}
 
 -- a walk from a cursor on: each range that is answered, and that none is left behind the last
 pub data Walk (s : List ℕ) : Cursor → List Range → Type 0 where
-  ends : {c : Cursor} → next_in s c ≡ step.End → Walk s c []
-  goes : {c d : Cursor} {r : Range} {rs : List Range} → next_in s c ≡ step.Range r.start r.end d → Walk s d rs → Walk s c (r ∷ rs)
+  ends : {c : Cursor} → next_in s c ≡ None → Walk s c []
+  goes : {c : Cursor} {t : Step} {rs : List Range} → next_in s c ≡ Some t → Walk s t.rest rs → Walk s c (range_of t.range ∷ rs)
 
 -- ---- a step, by what is left
 
@@ -39,13 +34,13 @@ held_behind false place n m h = omega arith
 -- a range is left, and the frame holds it: it is answered, with the cursor behind it
 pub one_left : (s : List ℕ) (long : Bool) (place n : ℕ) → place + 2 * width long ≤ length s
     → next_in s (record { long = long; place = place; left = suc n })
-    ≡ step.Range (field s place (width long)) (field s (place + width long) (width long)) (record { long = long; place = place + 2 * width long; left = n })
+    ≡ Some (record { range = range_in s place (width long); rest = record { long = long; place = place + 2 * width long; left = n } })
 one_left s long place n h =
     let less : suc n - 1 ≡ n = omega arith in
     rw (eqb-suc-zero n, le-ltb (length s) (place + 2 * width long) h, less)
 
 -- none is left
-pub none_left : (s : List ℕ) (long : Bool) (place : ℕ) → next_in s (record { long = long; place = place; left = 0 }) ≡ step.End
+pub none_left : (s : List ℕ) (long : Bool) (place : ℕ) → next_in s (record { long = long; place = place; left = 0 }) ≡ None
 none_left s long place = refl
 
 walk_at : (s : List ℕ) (long : Bool) (place n : ℕ) → place + n * (2 * width long) ≤ length s
@@ -62,47 +57,47 @@ walks s c h = walk_at s c.long c.place c.left h
 -- ---- a step, by what was answered
 
 -- a range was answered: it is the first of those ahead, and the others are ahead of the cursor that came with it
-pub record Went (s : List ℕ) (c : Cursor) (a b : ℕ) (d : Cursor) : Type 0 where
-  pub split : ranges_from s c ≡ record { start = a; end = b } ∷ ranges_from s d
-  pub fewer : d.left + 1 ≡ c.left
-  pub form : d.long ≡ c.long
-  pub inside : d.place ≤ length s
-  pub held : Held s c → Held s d
+pub record Went (s : List ℕ) (c : Cursor) (t : Step) : Type 0 where
+  pub split : ranges_from s c ≡ range_of t.range ∷ ranges_from s t.rest
+  pub fewer : t.rest.left + 1 ≡ c.left
+  pub form : t.rest.long ≡ c.long
+  pub inside : t.rest.place ≤ length s
+  pub held : Held s c → Held s t.rest
 
-by_test : (t : Bool) (a b m n : ℕ) (c d : Cursor) → (if t then step.End else step.Range a b c) ≡ step.Range m n d → (t ≡ false) × (a ≡ m) × (b ≡ n) × (c ≡ d)
-by_test true a b m n c d e = apart (cc)
-by_test false a b m n c d e = (refl, cc, cc, cc)
+by_test : (b : Bool) (x t : Step) → (if b then None else Some x) ≡ Some t → (b ≡ false) × (x ≡ t)
+by_test true x t e = apart (cc)
+by_test false x t e = (refl, cc)
 
-went_at : (s : List ℕ) (long : Bool) (place left a b : ℕ) (d : Cursor) → next_in s (record { long = long; place = place; left = left }) ≡ step.Range a b d
-    → Went s (record { long = long; place = place; left = left }) a b d
-went_at s long place zero a b d e = apart (cc)
-went_at s long place (suc n) a b d e =
+went_at : (s : List ℕ) (long : Bool) (place left : ℕ) (t : Step) → next_in s (record { long = long; place = place; left = left }) ≡ Some t
+    → Went s (record { long = long; place = place; left = left }) t
+went_at s long place zero t e = apart (cc)
+went_at s long place (suc n) t e =
     let less : suc n - 1 ≡ n = omega arith in
-    let p = by_test (ltb (length s) (place + 2 * width long)) _ _ a b _ d (rw (eqb-suc-zero n, less) at e) in
-    rw (← p.1, ← p.2, ← p.3) (record { split = refl; fewer = omega arith; form = refl; inside = ltb-false _ _ p.0; held = held_behind long place n (length s) })
+    let p = by_test (ltb (length s) (place + 2 * width long)) _ t (rw (eqb-suc-zero n, less) at e) in
+    rw (← p.1) (record { split = refl; fewer = omega arith; form = refl; inside = ltb-false _ _ p.0; held = held_behind long place n (length s) })
 
 -- a caller whose cursor is c learns this from the answer
-pub went : (s : List ℕ) (c : Cursor) {a b : ℕ} {d : Cursor} → next_in s c ≡ step.Range a b d → Went s c a b d
-went s c {a} {b} {d} e = went_at s c.long c.place c.left a b d e
+pub went : (s : List ℕ) (c : Cursor) {t : Step} → next_in s c ≡ Some t → Went s c t
+went s c {t} e = went_at s c.long c.place c.left t e
 
 -- a field of a form's width is on its circle
 on_circle : (s : List ℕ) (i : ℕ) (long : Bool) → AreOctets s → field s i (width long) < modulus long
 on_circle s i true o = field_below s i 3 o
 on_circle s i false o = field_below s i 2 o
 
-within_at : (s : List ℕ) (long : Bool) (place left a b : ℕ) (d : Cursor) → AreOctets s → next_in s (record { long = long; place = place; left = left }) ≡ step.Range a b d
-    → (a < modulus long) × (b < modulus long)
-within_at s long place zero a b d o e = apart (cc)
-within_at s long place (suc n) a b d o e =
-    let p = by_test (ltb (length s) (place + 2 * width long)) _ _ a b _ d (rw (eqb-suc-zero n) at e) in
-    rw (← p.1, ← p.2) (on_circle s place long o, on_circle s (place + width long) long o)
+within_at : (s : List ℕ) (long : Bool) (place left : ℕ) (t : Step) → AreOctets s → next_in s (record { long = long; place = place; left = left }) ≡ Some t
+    → (t.range.start < modulus long) × (t.range.end < modulus long)
+within_at s long place zero t o e = apart (cc)
+within_at s long place (suc n) t o e =
+    let p = by_test (ltb (length s) (place + 2 * width long)) _ t (rw (eqb-suc-zero n) at e) in
+    rw (← p.1) (on_circle s place long o, on_circle s (place + width long) long o)
 
 -- the numbers of a range that was answered are on the circle of the cursor's form
-pub within : (s : List ℕ) (c : Cursor) {a b : ℕ} {d : Cursor} → AreOctets s → next_in s c ≡ step.Range a b d → (a < modulus c.long) × (b < modulus c.long)
-within s c {a} {b} {d} o e = within_at s c.long c.place c.left a b d o e
+pub within : (s : List ℕ) (c : Cursor) {t : Step} → AreOctets s → next_in s c ≡ Some t → (t.range.start < modulus c.long) × (t.range.end < modulus c.long)
+within s c {t} o e = within_at s c.long c.place c.left t o e
 
 end_at : (s : List ℕ) (long : Bool) (place left : ℕ) → place + left * (2 * width long) ≤ length s
-    → next_in s (record { long = long; place = place; left = left }) ≡ step.End → left ≡ 0
+    → next_in s (record { long = long; place = place; left = left }) ≡ None → left ≡ 0
 end_at s long place zero h e = refl
 end_at s long place (suc n) h e =
     let behind = held_behind long place n (length s) h in
@@ -110,7 +105,7 @@ end_at s long place (suc n) h e =
     cc
 
 -- that none is left was answered, and the frame holds what is ahead: nothing is
-pub ended : (s : List ℕ) (c : Cursor) → Held s c → next_in s c ≡ step.End → ranges_from s c ≡ []
+pub ended : (s : List ℕ) (c : Cursor) → Held s c → next_in s c ≡ None → ranges_from s c ≡ []
 ended s c h e = rw (end_at s c.long c.place c.left h e)
 
 -- the frame holds what is ahead, and it is no more than a frame carries: it is all there

@@ -1,20 +1,16 @@
--- Where a view stands in a frame.
+-- What is ahead of a view in a frame.
 -- Assumes nothing.
-use Rattle.std.specs.Prelude.{Bool, List, ℕ}
-use Rattle.frame_reader.specs.Answers.{next_in}
-use Rattle.frame_reader.specs.declared.Cursor.{Cursor}
-use Rattle.frame_reader.specs.declared.Step.{Step}
-use Rattle.frame_reader.specs.declared.Step.TheVariants.{Range, End}
+use Rattle.std.specs.Prelude.{List, [], ◌∷◌, ℕ, zero, suc, ◌+◌, ◌*◌, ltb, length, if◌then◌else◌}
+use Rattle.frame_layout.specs.Frames.{Range, width}
+use Rattle.frame_layout.specs.Types.{range_of}
+use Rattle.frame_reader.specs.Answers.{range_in}
+use Rattle.frame_view.specs.declared.View.{View}
 
--- the cursor of a form, a place and a count
-abbrev pub cursor_at : Bool → ℕ → ℕ → Cursor
-cursor_at long place left = record { long = long; place = place; left = left }
+-- so many ranges at a place of a frame, up to the first that it doesn't hold; w is the width of a number
+abbrev pub ahead : List ℕ → ℕ → ℕ → ℕ → List Range
+ahead s w place zero = []
+ahead s w place (suc n) = if ltb (length s) (place + 2 * w) then [] else range_of (range_in s place w) ∷ ahead s w (place + 2 * w) n
 
--- where a step leads: behind its range, or nowhere
-abbrev pub rest_of : Step → Cursor → Cursor
-rest_of (Range start end rest) c = rest
-rest_of End c = c
-
--- the cursor behind the range at a cursor
-abbrev pub behind_in : List ℕ → Cursor → Cursor
-behind_in s c = rest_of (next_in s c) c
+-- those that a view still shows
+abbrev pub ahead_of : View → List Range
+ahead_of v = ahead v.frame.now (width v.at.long) v.at.place v.at.left

@@ -1,18 +1,18 @@
 -- How long a status is before its padding.
 -- Assumes nothing.
-use mathlib.Core.Path.{◌≡◌, ◌∙◌}
-use mathlib.Core.Bool.{Bool}
-use mathlib.Core.List.{List, [], ◌∷◌}
-use Prim.Native.Nat.{◌+◌}
-use native.Mathlib.Omega.{arith}
-use lib.ListN.{length, length-append}
-use Rattle.frame_layout.specs.Frames.{Range, Status, width, list_octets, status_fields}
+use Rattle.std.proofs.Common.{◌≡◌, ◌∙◌, ℕ, ◌+◌, Bool, List, [], ◌∷◌, length, length-append, refl, arith}
+use Rattle.frame_layout.specs.Frames.{Range, Status, width, list_octets, range_octets, status_fields}
 use Rattle.frame_layout.proofs.Octets.{length_octets, length_range_octets}
 use Rattle.frame_writer.specs.Lengths.{status_length}
 
 -- a status's fields: the fixed ones, and the list
 pub length_fields : (s : Status) → length (status_fields s) ≡ 9 + width s.long + length (list_octets (width s.long) s.ranges)
 length_fields s = simp (length-append, length_octets) (omega arith)
+
+-- a list is one octet longer than its ranges
+pub length_list : (w : ℕ) (rs : List Range) → (length rs ≡ 0 → ⊥) → length (list_octets w rs) ≡ 1 + length (range_octets w rs)
+length_list w [] some = absurd (some refl)
+length_list w (r ∷ rs) some = omega arith
 
 with_list : (long : Bool) (rs : List Range) → 9 + width long + length (list_octets (width long) rs) ≡ status_length long (length rs)
 with_list long [] = omega arith

@@ -1,4 +1,4 @@
-pub mod Joined
+pub mod Copied
 pub mod Lengths
 pub mod Placed
 pub mod Ranges

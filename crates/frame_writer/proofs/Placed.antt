@@ -1,26 +1,23 @@
 -- A padded frame laid at the front of a buffer is what the layout says that a writer leaves.
 -- Assumes nothing.
-use mathlib.Core.Path.{◌≡◌}
-use mathlib.Core.List.{List}
-use Prim.Native.Nat.{ℕ, ◌+◌, ◌≤◌, ◌<◌}
-use native.Mathlib.Nat.{zero-add}
-use borrow.Author.Tests.{lt-ltb, le-ltb}
-use lib.ListN.{length, replicate}
-use lib.Seq.{sets-eq}
+use Rattle.std.proofs.Common.{◌≡◌, ℕ, ◌+◌, ◌≤◌, ◌<◌, List, length, replicate, Ok, Err}
+use Rattle.std.proofs.Math.Nat.{zero-add}
+use Rattle.std.proofs.lemmas.Bool.{lt-ltb, le-ltb}
+use Rattle.std.proofs.lemmas.List.Edits.{sets-eq}
 use Rattle.frame_layout.specs.Frames.{padding, padded, place}
 use Rattle.frame_layout.proofs.Padded.{length_padded}
-use Rattle.frame_writer.specs.declared.Wrote.TheVariants.{Octets, Refused}
+use Rattle.refusal.specs.declared.Refusal.TheVariants.{Room}
 use Rattle.frame_writer.specs.Answers.{left}
 use Rattle.basics.specs.Laid.{Laid}
 use Rattle.basics.proofs.Laying.{laid_then}
 
 -- a buffer too short for fields and their padding
-pub unplaced : {count : ℕ} (fields d : List ℕ) → count ≡ padding (length fields) → length d < length fields + count → left (Refused 20) d ≡ place (padded fields) d
+pub unplaced : {count : ℕ} (fields d : List ℕ) → count ≡ padding (length fields) → length d < length fields + count → left (Err Room) d ≡ place (padded fields) d
 unplaced fields d said short = rw (length_padded fields, ← said, lt-ltb _ _ short)
 
 -- fields, and their padding right behind them, in a buffer that holds both
 pub placed : {e f : List ℕ} {mid next count : ℕ} (fields d : List ℕ) → count ≡ padding (length fields) → length fields + count ≤ length d
-    → Laid d 0 fields mid e → Laid e mid (replicate count 0) next f → left (Octets next) f ≡ place (padded fields) d
+    → Laid d 0 fields mid e → Laid e mid (replicate count 0) next f → left (Ok next) f ≡ place (padded fields) d
 placed {e} {f} {mid} {next} fields d said room front zeros =
     let all = rw said at (laid_then front zeros) in
     let fits : length (padded fields) ≤ length d = rw (length_padded fields, ← said) room in

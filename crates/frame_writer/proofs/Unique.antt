@@ -1,22 +1,24 @@
 -- Two outcomes that a contract of this crate allows are equal: a contract gives what a call leaves, and that gives the
 -- answer and the buffer.
 -- Assumes nothing.
-use mathlib.Core.Path.{◌≡◌, sym, ◌∙◌, ap}
-use mathlib.Core.List.{List}
-use Prim.Native.Nat.{ℕ}
+use Rattle.std.proofs.Common.{◌≡◌, ℕ, List, Result, Ok, Err, sym, ◌∙◌, ap}
+use Rattle.refusal.specs.declared.Refusal.{Refusal}
+use Rattle.refusal.specs.Numbers.{number_of, answer_of}
+use Rattle.refusal.proofs.Numbers.{numbered, told}
 use Rattle.frame_layout.specs.Frames.{Written}
-use Rattle.frame_writer.specs.declared.Wrote.{Wrote}
-use Rattle.frame_writer.specs.declared.Wrote.TheVariants.{Octets, Refused}
-use Rattle.frame_writer.specs.Answers.{outcome_of, left}
+use Rattle.frame_writer.specs.Answers.{left}
 
 -- no two answers mean the same
-pub outcome_injective : (r s : Wrote) → outcome_of r ≡ outcome_of s → r ≡ s
-outcome_injective (Octets m) (Octets n) e = cc
-outcome_injective (Octets m) (Refused n) e = cc
-outcome_injective (Refused m) (Octets n) e = cc
-outcome_injective (Refused m) (Refused n) e = cc
+pub outcome_injective : (r s : Result ℕ Refusal) → answer_of (λ n. n) r ≡ answer_of (λ n. n) s → r ≡ s
+outcome_injective (Ok m) (Ok n) e = cc
+outcome_injective (Ok m) (Err q) e = cc
+outcome_injective (Err r) (Ok n) e = cc
+outcome_injective (Err r) (Err q) e =
+    let same : number_of r ≡ number_of q = cc in
+    let alike : r ≡ q = sym (told r) ∙ ap numbered same ∙ told q in
+    ap Err alike
 
-pub unique : (w : Written) (r s : Wrote) (d e : List ℕ) → left r d ≡ w → left s e ≡ w → (r ≡ s) × (d ≡ e)
+pub unique : (w : Written) (r s : Result ℕ Refusal) (d e : List ℕ) → left r d ≡ w → left s e ≡ w → (r ≡ s) × (d ≡ e)
 unique w r s d e p q =
     let same = p ∙ sym q in
     (outcome_injective r s (ap (λ (v : Written). v.answer) same), ap (λ (v : Written). v.buffer) same)

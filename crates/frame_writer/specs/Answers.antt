@@ -1,20 +1,14 @@
 -- What the writer's answers mean in document 01's words.
 -- Assumes nothing.
-use Rattle.std.specs.Prelude.{List, ℕ}
-use Rattle.basics.specs.Basics.{Outcome, done, refused}
+use Rattle.std.specs.Prelude.{List, ℕ, Result}
 use Rattle.frame_layout.specs.Frames.{Range, Status, Written}
-use Rattle.frame_writer.specs.declared.Wrote.{Wrote}
-use Rattle.frame_writer.specs.declared.Wrote.TheVariants.{Octets, Refused}
+use Rattle.refusal.specs.declared.Refusal.{Refusal}
+use Rattle.refusal.specs.Numbers.{answer_of}
 use Rattle.frame_writer.specs.declared.Head.{Head}
 
--- how many octets were written, or the number of a refusal
-abbrev pub outcome_of : Wrote → Outcome ℕ
-outcome_of (Octets n) = done n
-outcome_of (Refused n) = refused n
-
--- what a call leaves: its answer and the buffer
-abbrev pub left : Wrote → List ℕ → Written
-left r d = record { answer = outcome_of r; buffer = d }
+-- what a call leaves: how many octets were written, or the number of the refusal, and the buffer
+abbrev pub left : Result ℕ Refusal → List ℕ → Written
+left r d = record { answer = answer_of (λ n. n) r; buffer = d }
 
 -- the status that a head and ranges say
 abbrev pub head_status : Head → List Range → Status

@@ -1,16 +1,20 @@
 // Writing X2-U frames of types 0 to 3 (TS 36.425 V15.0.0, 5.5) at the front of a buffer that the caller lends.
 #![tactic(auto)]
 
-ghost use Rattle.std.specs.Prelude.{◌≡◌, ◌∷◌, ◌++◌, ◌+◌, ◌*◌, ◌/◌, ◌%◌, ◌^◌, ◌≤◌, ◌<◌, length, replicate};
+ghost use Rattle.std.specs.Prelude.{◌≡◌, ◌∷◌, ◌++◌, ◌+◌, ◌*◌, ◌≤◌, ◌<◌, length, replicate};
 ghost use Rattle.basics.specs.Basics.{all};
 ghost use Rattle.frame_layout.specs.Octets.{octets};
 ghost use Rattle.frame_layout.specs.Frames.{ranges_of, range_octets, list_octets, first_octet as «first_octet_of», in_form, most_ranges, most_octets, width, status_type, status_fields, write_data as «write_data_of», write_status as «write_status_of»};
+ghost use Rattle.frame_layout.specs.Types.{number_of};
 ghost use Rattle.basics.specs.Laid.{Room, Laid};
 ghost use Rattle.frame_writer.specs.Answers.{left, head_status};
 ghost use Rattle.frame_writer.specs.Lengths.{status_length as «status_length_of»};
 
+use frame_layout::FrameType;
+use refusal::Refusal;
+
 // What a status says before its list.
-#[derive(Clone, Copy)]
+#[derive(Clone, Copy, Debug, PartialEq, Eq)]
 pub struct Head {
     pub long: bool,
     pub last: bool,
@@ -19,15 +23,9 @@ pub struct Head {
     pub minimum: u32,
 }
 
-// How many octets the frame has, or why nothing was written.
-#[derive(Drop)]
-pub enum Wrote {
-    Octets(usize),
-    Refused(u32),
-}
-
-// A data frame: type 0, or 3 in the long form. Each form has its own call, so that its lengths are constants to the compiler.
-pub fn write_data(long: bool, number: u32, dst: &mut [u8]) -> Wrote
+// A data frame: type 0, or 3 in the long form; how many octets it has. Each form has its own call, so that its lengths are constants to
+// the compiler: without it a frame takes 44 instructions for 23 (docs/DECISIONS.md).
+pub fn write_data(long: bool, number: u32, dst: &mut [u8]) -> Result<usize, Refusal>
     ensures { left result dst.new ≡ «write_data_of» long number dst.old }
 {
     if long {
@@ -37,45 +35,51 @@ pub fn write_data(long: bool, number: u32, dst: &mut [u8]) -> Wrote
 }
 
 // A data frame of either form, called with the form as a constant.
-fn write_data_in(long: bool, number: u32, dst: &mut [u8]) -> Wrote
+fn write_data_in(long: bool, number: u32, dst: &mut [u8]) -> Result<usize, Refusal>
     ensures { left result dst.new ≡ «write_data_of» long number dst.old }
 {
     if circle::modulus(long) <= number {
-        return Wrote::Refused(refusal::NUMBER);
+        return Err(Refusal::Number);
     }
     let length = 1 + frame_layout::width(long);
     let zeros = frame_layout::padding(length);
     if dst.len() < length + zeros {
-        return Wrote::Refused(refusal::ROOM);
+        return Err(Refusal::Room);
     }
     dst[0] = first_octet(frame_layout::data_type(long), false, false);
     let at = put_number(long, number, dst, 1);
-    Wrote::Octets(put_zeros(zeros, dst, at))
+    Ok(put_zeros(zeros, dst, at))
 }
 
-// A status frame: type 1, or 2 in the long form. Range i is starts[i] to ends[i], as many as there are of both.
-pub fn write_status(head: Head, starts: &[u32], ends: &[u32], dst: &mut [u8]) -> Wrote
+// A status frame: type 1, or 2 in the long form; how many octets it has. Range i is starts[i] to ends[i], as many as there are of both:
+// two arrays, as C lends them.
+pub fn write_status(
+    head: Head,
+    starts: &[u32],
+    ends: &[u32],
+    dst: &mut [u8],
+) -> Result<usize, Refusal>
     ensures { left result dst.new ≡ «write_status_of» (head_status head (ranges_of starts.now ends.now)) dst.old }
 {
     let long = head.long;
     if frame_layout::most_highest(long) < head.highest {
-        return Wrote::Refused(refusal::HIGHEST);
+        return Err(Refusal::Highest);
     }
-    let count = basics::least(starts.len(), ends.len());
+    let count = starts.len().min(ends.len());
     if frame_layout::MOST_RANGES < count {
-        return Wrote::Refused(refusal::COUNT);
+        return Err(Refusal::Count);
     }
-    if !all_in_form(long, starts, ends, count) {
-        return Wrote::Refused(refusal::NUMBER);
+    if !all_in_form(long, starts, ends) {
+        return Err(Refusal::Number);
     }
     let length = status_length(long, count);
     let zeros = frame_layout::padding(length);
     if dst.len() < length + zeros {
-        return Wrote::Refused(refusal::ROOM);
+        return Err(Refusal::Room);
     }
-    let at = put_status(head, starts, ends, count, dst);
+    let at = put_status(head, starts, ends, dst);
     let end = put_zeros(zeros, dst, at);
-    Wrote::Octets(end)
+    Ok(end)
 }
 
 // ---- lengths
@@ -88,74 +92,41 @@ fn status_length(long: bool, count: usize) -> usize
     if count == 0 {
         return frame_layout::count_at(long);
     }
-    frame_layout::list_at(long) + count * (2 * frame_layout::width(long))
+    frame_layout::list_end(long, count as u32)
 }
 
 // ---- the ranges
 
 // Whether both ends of every range are numbers of the form.
-fn all_in_form(long: bool, starts: &[u32], ends: &[u32], count: usize) -> bool
-    requires { count ≡ length (ranges_of starts.now ends.now) }
+fn all_in_form(long: bool, starts: &[u32], ends: &[u32]) -> bool
     ensures { result ≡ all (in_form long) (ranges_of starts.now ends.now) }
 {
     let limit = circle::modulus(long);
-    let mut i = 0;
-    while i < count {
-        if limit <= starts[i] {
+    for (start, end) in starts.iter().zip(ends) {
+        if limit <= *start || limit <= *end {
             return false;
         }
-        if limit <= ends[i] {
-            return false;
-        }
-        i += 1;
     }
     true
 }
 
-// ---- stores: each lays octets at a place, where there is room for them, and answers the place behind them
+// ---- stores: each lays octets at a place, where there is room for them, and answers the place behind them. A struct of buffer and place
+// would be no plainer: each store would have to say of it, too, that it keeps the loan.
 
 // The first octet, its spare bits zero.
-fn first_octet(kind: u8, last: bool, listed: bool) -> u8
-    requires { kind < 16 }
-    ensures { result ≡ «first_octet_of» kind last listed }
+fn first_octet(kind: FrameType, last: bool, listed: bool) -> u8
+    ensures { result ≡ «first_octet_of» (number_of kind) last listed }
 {
-    (kind << 4) | ((last as u8) << 1) | (listed as u8)
+    (u8::from(kind) << 4) | (u8::from(last) << 1) | u8::from(listed)
 }
 
-// The octet of a number that has `shift` bits below it.
-fn octet(number: u32, shift: u32) -> u8
-    requires { shift < 32 }
-    ensures { result ≡ number / 2 ^ shift % 256 }
+// A number's last N octets.
+fn put<const N: usize>(number: u32, dst: &mut [u8], at: usize) -> usize
+    requires { (N ≤ 4) × Room dst.old at N }
+    ensures { Laid dst.old at (octets N number) result dst.new }
 {
-    ((number >> shift) & 255) as u8
-}
-
-// A number's last two octets.
-fn put_2(number: u32, dst: &mut [u8], at: usize) -> usize
-    requires { Room dst.old at 2 }
-    ensures { Laid dst.old at (octets 2 number) result dst.new }
-{
-    dst[at] = octet(number, 8);
-    dst[at + 1] = octet(number, 0);
-    at + 2
-}
-
-// Its last three.
-fn put_3(number: u32, dst: &mut [u8], at: usize) -> usize
-    requires { Room dst.old at 3 }
-    ensures { Laid dst.old at (octets 3 number) result dst.new }
-{
-    dst[at] = octet(number, 16);
-    put_2(number, dst, at + 1)
-}
-
-// All four.
-fn put_4(number: u32, dst: &mut [u8], at: usize) -> usize
-    requires { Room dst.old at 4 }
-    ensures { Laid dst.old at (octets 4 number) result dst.new }
-{
-    let at = put_2(number >> 16, dst, at);
-    put_2(number, dst, at)
+    dst[at..at + N].copy_from_slice(&number.to_be_bytes()[4 - N..]);
+    at + N
 }
 
 // A number of a form.
@@ -164,9 +135,10 @@ fn put_number(long: bool, number: u32, dst: &mut [u8], at: usize) -> usize
     ensures { Laid dst.old at (octets (width long) number) result dst.new }
 {
     if long {
-        return put_3(number, dst, at);
+        put::<3>(number, dst, at)
+    } else {
+        put::<2>(number, dst, at)
     }
-    put_2(number, dst, at)
 }
 
 // A range: start and end.
@@ -179,43 +151,29 @@ fn put_range(long: bool, start: u32, end: u32, dst: &mut [u8], at: usize) -> usi
 }
 
 // All ranges.
-fn put_ranges(
-    long: bool,
-    starts: &[u32],
-    ends: &[u32],
-    count: usize,
-    dst: &mut [u8],
-    at: usize,
-) -> usize
-    requires { (count ≡ length (ranges_of starts.now ends.now)) × Room dst.old at (length (range_octets (width long) (ranges_of starts.now ends.now))) }
+fn put_ranges(long: bool, starts: &[u32], ends: &[u32], dst: &mut [u8], at: usize) -> usize
+    requires { Room dst.old at (length (range_octets (width long) (ranges_of starts.now ends.now))) }
     ensures { Laid dst.old at (range_octets (width long) (ranges_of starts.now ends.now)) result dst.new }
 {
     let mut at = at;
-    let mut i = 0;
-    while i < count {
-        at = put_range(long, starts[i], ends[i], dst, at);
-        i += 1;
+    for (start, end) in starts.iter().zip(ends) {
+        at = put_range(long, *start, *end, dst, at);
     }
     at
 }
 
 // The count and the ranges, or nothing where there are none.
-fn put_list(
-    long: bool,
-    starts: &[u32],
-    ends: &[u32],
-    count: usize,
-    dst: &mut [u8],
-    at: usize,
-) -> usize
-    requires { (count ≡ length (ranges_of starts.now ends.now)) × (count ≤ most_ranges) × Room dst.old at (length (list_octets (width long) (ranges_of starts.now ends.now))) }
+#[tactic(auto, using(frame_layout::proofs::Ranges::ranges_count))]
+fn put_list(long: bool, starts: &[u32], ends: &[u32], dst: &mut [u8], at: usize) -> usize
+    requires { (length (ranges_of starts.now ends.now) ≤ most_ranges) × Room dst.old at (length (list_octets (width long) (ranges_of starts.now ends.now))) }
     ensures { Laid dst.old at (list_octets (width long) (ranges_of starts.now ends.now)) result dst.new }
 {
+    let count = starts.len().min(ends.len());
     if count == 0 {
         return at;
     }
     dst[at] = count as u8;
-    put_ranges(long, starts, ends, count, dst, at + 1)
+    put_ranges(long, starts, ends, dst, at + 1)
 }
 
 // What stands before the list.
@@ -229,20 +187,22 @@ fn put_head(head: Head, listed: bool, dst: &mut [u8]) -> usize
     let long = head.long;
     dst[0] = first_octet(frame_layout::status_type(long), head.last, listed);
     let at = put_number(long, head.highest, dst, 1);
-    let at = put_4(head.desired, dst, at);
-    put_4(head.minimum, dst, at)
+    let at = put::<4>(head.desired, dst, at);
+    put::<4>(head.minimum, dst, at)
 }
 
 // All that stands before the padding.
-fn put_status(head: Head, starts: &[u32], ends: &[u32], count: usize, dst: &mut [u8]) -> usize
-    requires { (count ≡ length (ranges_of starts.now ends.now)) × (count ≤ most_ranges) × Room dst.old 0 (length (status_fields (head_status head (ranges_of starts.now ends.now)))) }
+#[tactic(auto, using(frame_layout::proofs::Ranges::ranges_count))]
+fn put_status(head: Head, starts: &[u32], ends: &[u32], dst: &mut [u8]) -> usize
+    requires { (length (ranges_of starts.now ends.now) ≤ most_ranges) × Room dst.old 0 (length (status_fields (head_status head (ranges_of starts.now ends.now)))) }
     ensures { Laid dst.old 0 (status_fields (head_status head (ranges_of starts.now ends.now))) result dst.new }
 {
-    let at = put_head(head, 0 < count, dst);
-    put_list(head.long, starts, ends, count, dst, at)
+    let listed = !starts.is_empty() && !ends.is_empty();
+    let at = put_head(head, listed, dst);
+    put_list(head.long, starts, ends, dst, at)
 }
 
-// Up to three zero octets.
+// Up to three zero octets, written out: `fill` is a call of memset, and a status without a range took 13.9 ns with it for 12.2.
 fn put_zeros(count: usize, dst: &mut [u8], at: usize) -> usize
     requires { (count ≤ 3) × Room dst.old at count }
     ensures { Laid dst.old at (replicate count 0) result dst.new }

@@ -11,4 +11,4 @@ either (suc (suc zero)) s n h = refl
 either (suc (suc (suc k))) s n h = absurd (omega arith)
 
 pub returns-in-1-to-2 : goal.returns-in-1-to-2
-returns-in-1-to-2 c = c.read_status.ensures ∙ either c.args.kind c.args.s.now (omega arith) (omega arith)
+returns-in-1-to-2 c = c.read_status.ensures ∙ either c.args.kind c.args.frame.now (omega arith) (omega arith)

@@ -29,18 +29,15 @@ module _ (s : Status) where
 pub returns-then-count-gt-MOST_RANGES : goal.returns-then-count-gt-MOST_RANGES
 returns-then-count-gt-MOST_RANGES c =
     let s = head_status c.args.head (ranges_of c.args.starts.now c.args.ends.now) in
-    let said = count_said c.args.starts.now c.args.ends.now _ c.least-count.ensures in
+    let said = count_said c.args.starts.now c.args.ends.now _ c.min-count.ensures in
     let within : s.highest ≤ most_highest s.long = omega arith in
     let above : most_ranges < length s.ranges = omega arith in
     rw (le-ltb (most_highest s.long) s.highest within, lt-ltb most_ranges (length s.ranges) above)
 
-pub all_in_form-requires : goal.all_in_form-requires
-all_in_form-requires c = count_said c.args.starts.now c.args.ends.now _ c.least-count.ensures
-
 pub returns-then-not-all_in_form : goal.returns-then-not-all_in_form
 returns-then-not-all_in_form c =
     let s = head_status c.args.head (ranges_of c.args.starts.now c.args.ends.now) in
-    let said = count_said c.args.starts.now c.args.ends.now _ c.least-count.ensures in
+    let said = count_said c.args.starts.now c.args.ends.now _ c.min-count.ensures in
     let within : s.highest ≤ most_highest s.long = omega arith in
     let few : length s.ranges ≤ most_ranges = omega arith in
     let out : all (in_form s.long) s.ranges ≡ false = sym c.if-not-all_in_form.ensures in
@@ -49,7 +46,7 @@ returns-then-not-all_in_form c =
 pub returns-then-dst-length : goal.returns-then-dst-length
 returns-then-dst-length c =
     let s = head_status c.args.head (ranges_of c.args.starts.now c.args.ends.now) in
-    let said = count_said c.args.starts.now c.args.ends.now _ c.least-count.ensures in
+    let said = count_said c.args.starts.now c.args.ends.now _ c.min-count.ensures in
     let fields : length (status_fields s) ≡ c.status_length-length.result = fields_length s _ _ said c.status_length-length.ensures.0 in
     unplaced (status_fields s) c.args.dst.now (c.padding-zeros.ensures ∙ ap padding (sym fields)) (omega arith)
     ∙ judged s c.args.dst.now (omega arith) (omega arith) (sym c.if-not-all_in_form.ensures)
@@ -57,21 +54,21 @@ returns-then-dst-length c =
 pub put_status-at-requires : goal.put_status-at-requires
 put_status-at-requires c =
     let s = head_status c.args.head (ranges_of c.args.starts.now c.args.ends.now) in
-    let said = count_said c.args.starts.now c.args.ends.now _ c.least-count.ensures in
+    let said = count_said c.args.starts.now c.args.ends.now _ c.min-count.ensures in
     let fields : length (status_fields s) ≡ c.status_length-length.result = fields_length s _ _ said c.status_length-length.ensures.0 in
-    (said, omega arith, omega arith)
+    (omega arith, omega arith)
 
 pub put_zeros-end-requires : goal.put_zeros-end-requires
 put_zeros-end-requires c =
     let s = head_status c.args.head (ranges_of c.args.starts.now c.args.ends.now) in
-    let said = count_said c.args.starts.now c.args.ends.now _ c.least-count.ensures in
+    let said = count_said c.args.starts.now c.args.ends.now _ c.min-count.ensures in
     let fields : length (status_fields s) ≡ c.status_length-length.result = fields_length s _ _ said c.status_length-length.ensures.0 in
     (omega arith, laid_room _ c.put_status-at.ensures (omega arith))
 
 pub returns : goal.returns
 returns c =
     let s = head_status c.args.head (ranges_of c.args.starts.now c.args.ends.now) in
-    let said = count_said c.args.starts.now c.args.ends.now _ c.least-count.ensures in
+    let said = count_said c.args.starts.now c.args.ends.now _ c.min-count.ensures in
     let fields : length (status_fields s) ≡ c.status_length-length.result = fields_length s _ _ said c.status_length-length.ensures.0 in
     placed (status_fields s) c.args.dst.now (c.padding-zeros.ensures ∙ ap padding (sym fields)) (omega arith) c.put_status-at.ensures c.put_zeros-end.ensures
     ∙ judged s c.args.dst.now (omega arith) (omega arith) (sym c.if-not-all_in_form.ensures)
