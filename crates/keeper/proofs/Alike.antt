@@ -5,17 +5,18 @@ use mathlib.Core.Bool.{not}
 use mathlib.Core.List.{List, [], ◌∷◌, map}
 use Prim.Native.Nat.{ℕ, zero, suc, ◌≤◌, ◌<◌}
 use native.Mathlib.Omega.{arith}
-use lib.ListN.{length, take}
+use lib.ListN.{length, take, length-take}
 use Rattle.basics.specs.Basics.{bit, is_set}
 use Rattle.circle.specs.Lengths.{length_in}
 use Rattle.circle.proofs.Forms.{length_read}
-use Rattle.frame_layout.specs.Frames.{Range, starts_of, ends_of}
+use Rattle.frame_layout.specs.Frames.{Range, ranges_of, starts_of, ends_of}
 use Rattle.bearer.specs.Packets.{Each}
 use Rattle.bearer.specs.Keeper.{Keeper, Record, numbers_of}
 use Rattle.keeper_state.specs.declared.Words.{Words}
 use Rattle.keeper_state.specs.State.{is_open, opened_word, held_in, listed_in, records_of}
 use Rattle.keeper_state.proofs.Opened.{opened_own}
-use Rattle.keeper_state.proofs.Fronts.{fronts, numbers_are, starts_are, ends_are, count_is}
+use Rattle.frame_layout.proofs.Ranges.{starts_listed, ends_listed, ranges_count}
+use Rattle.keeper_state.proofs.Records.{numbers_held, records_count}
 use Rattle.keeper.specs.View.{Arrays, state_held, words_in}
 use Rattle.keeper.specs.Plain.{Plain, Sized, Alike}
 use Rattle.keeper.proofs.Words.{six}
@@ -81,7 +82,7 @@ module _ (a : Arrays) (sized : Sized a) (plain : Plain a.words a.marks) where
 
   -- the arrays, up to the counts
   numbers_said : numbers_of k.records ≡ take w.records a.numbers
-  numbers_said = numbers_are w sized.held w.records records_counted
+  numbers_said = numbers_held (held_in w) a.numbers a.pdcps a.marks (omega arith) (omega arith) (omega arith) ∙ ap (λ (n : ℕ). take n a.numbers) (sym records_counted)
 
   fields_said : (pdcps_of k.records ≡ take (held_in w) a.pdcps) × (marks_of k.records ≡ map (λ (x : ℕ). bit (is_set x)) (take (held_in w) a.marks))
   fields_said = fields_held (held_in w) a.numbers a.pdcps a.marks (omega arith) (omega arith) (omega arith)
@@ -96,18 +97,18 @@ module _ (a : Arrays) (sized : Sized a) (plain : Plain a.words a.marks) where
       ∙ flags_own (take w.records a.marks) plain.records.flags
 
   starts_said : starts_of k.runs ≡ take w.runs a.starts
-  starts_said = starts_are w sized.listed w.runs runs_counted
+  starts_said = starts_listed (listed_in w) a.starts a.ends (omega arith) (omega arith) ∙ ap (λ (n : ℕ). take n a.starts) (sym runs_counted)
 
   ends_said : ends_of k.runs ≡ take w.runs a.ends
-  ends_said = ends_are w sized.listed w.runs runs_counted
+  ends_said = ends_listed (listed_in w) a.starts a.ends (omega arith) (omega arith) ∙ ap (λ (n : ℕ). take n a.ends) (sym runs_counted)
 
   -- the words
   words_said_lem : a.words ≡ words_said k
   words_said_lem =
       let bits : length_in w.bits ≡ w.bits = length_read w.bits plain.bits in
       let opened : opened_word (not (is_open w.opened)) ≡ w.opened = opened_own w.opened plain.opened in
-      let runs : length k.runs ≡ w.runs = count_is w sized.listed w.runs runs_counted in
-      let records : length k.records ≡ w.records = (fronts w sized.held a.starts a.ends).count ∙ sym records_counted in
+      let runs : length k.runs ≡ w.runs = omega (arith, runs_counted, length-take (listed_in w) (ranges_of a.starts a.ends), ranges_count a.starts a.ends) in
+      let records : length k.records ≡ w.records = omega (arith, records_counted, length-take (held_in w) (records_of a.numbers a.pdcps a.marks), records_count a.numbers a.pdcps a.marks) in
       six a.words sized.words ∙ cc
 
 -- ---- two of them

@@ -3,7 +3,7 @@ pub mod Parts
 pub mod Ranges
 pub mod Records
 pub mod Listing
-pub mod Opening
+pub mod Becoming
 pub mod Changed
 pub mod Plain
 pub mod Alike

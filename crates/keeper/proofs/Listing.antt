@@ -2,16 +2,18 @@
 -- Assumes nothing.
 use mathlib.Core.Path.{◌≡◌, refl, sym, ◌∙◌, ap}
 use mathlib.Core.Bool.{true, false}
-use mathlib.Core.List.{List, [], ◌∷◌, ◌++◌, append_assoc}
-use Prim.Native.Nat.{ℕ, suc, ◌+◌, ◌-◌, ◌≤◌, ◌<◌}
+use mathlib.Core.List.{List, [], ◌∷◌, ◌++◌, append_assoc, append-nil}
+use Prim.Native.Nat.{ℕ, zero, suc, ◌+◌, ◌-◌, ◌≤◌, ◌<◌}
 use native.Mathlib.Omega.{arith}
-use lib.ListN.{length, get_or, set, take, drop, length-append, length-map, length-take}
-use lib.Seq.{set-set, set-get_or, set_comm, take-suc, take-take, get_or-take, take_at, length-take-le, sets, sets-eq}
-use Rattle.basics.specs.Basics.{bit}
+use lib.ListN.{length, get_or, set, take, drop, length-append, length-map, length-take, length-drop, drop_of_length-le}
+use Rattle.std.proofs.Common.{drop-drop}
+use lib.Seq.{set-set, set-get_or, set_comm, take-suc, take-take, get_or-take, take_at, take_all, length-take-le, sets, sets-eq}
+use borrow.Rule.Slice.PartMut.{put_mid}
+use Rattle.std.proofs.lemmas.List.{take_rest}
 use Rattle.frame_layout.specs.Frames.{Range, ranges_of, starts_of, ends_of}
-use Rattle.bearer.specs.Losses.{Gap, gaps, offsets, runs_of, new_runs, runs_joined}
+use Rattle.bearer.specs.Losses.{Gap, gaps, offsets, lost_below, runs_of, new_runs, runs_joined}
 use Rattle.keeper_judge.specs.declared.Losses.{Losses}
-use Rattle.keeper_judge.specs.Judgements.{first_adjoins, Losing}
+use Rattle.keeper_judge.specs.Judgements.{first_adjoins}
 use Rattle.frame_layout.proofs.Ranges.{ranges_take, ranges_append, ranges_own, ranges_count, starts_listed}
 use Rattle.keeper_judge.proofs.Joining.{adjoins_listed, with_apart, with_joined, count_apart, count_joined}
 use Rattle.keeper_judge.proofs.Given.{same_gaps}
@@ -93,36 +95,54 @@ module _ (M : ℕ) (ss es : List ℕ) (n : ℕ) (within : n ≤ length ss) (alik
       )
       (in_front_lem (take i ss ++ (get_or ss i 0 ∷ starts_of rs)) (take i es ++ (r.end ∷ ends_of rs)) _ _ (runs_joined M listed (r ∷ rs)) both is)
 
+-- ---- a part of an array from a slot on
+
+-- what is stored in it is stored from that slot on
+sets_cons : (x : ℕ) (a vs : List ℕ) (n : ℕ) → sets (x ∷ a) (suc n) vs ≡ x ∷ sets a n vs
+sets_cons x a [] n = refl
+sets_cons x a (v ∷ vs) n = sets_cons x (set a n v) vs (suc n)
+
+sets_rest : (n : ℕ) (a vs : List ℕ) → n ≤ length a → take n a ++ sets (drop n a) 0 vs ≡ sets a n vs
+sets_rest zero a vs h = refl
+sets_rest (suc n) [] vs h = absurd (omega arith)
+sets_rest (suc n) (x ∷ a) vs h = ap (λ (l : List ℕ). x ∷ l) (sets_rest n a vs (omega arith)) ∙ sym (sets_cons x a vs n)
+
+put_sets : (n k : ℕ) (a vs e : List ℕ) → n + k ≡ length a → e ≡ sets (take k (drop n a)) 0 vs → put_mid n k a e ≡ sets a n vs
+put_sets n k a vs e h is =
+    let none : drop (n + k) a ≡ [] = drop_of_length-le a (omega arith) in
+    let rest : take k (drop n a) ≡ drop n a = take_all k (drop n a) (omega (arith, length-drop n a)) in
+    rw (is, rest, drop-drop, none, append-nil (sets (drop n a) 0 vs)) (sets_rest n a vs (omega arith))
+
 -- ---- what is lost, listed
 
 module _ {lost : Losses} {M base : ℕ} {ns ss es : List ℕ} {n : ℕ} (h : Lists lost M base ns ss es n) where
   -- the gaps that a pass over the numbers from `from` on finds
   abbrev passed : List Gap
-  passed = gaps 0 lost.limit (offsets M base (drop lost.from ns))
+  passed = gaps 0 lost.limit (offsets M base (take (length ns - lost.from) (drop lost.from ns)))
 
-  -- written from a slot on
-  module _ (at : ℕ) (at-is : at ≡ n - bit lost.joins) (ss' es' : List ℕ) (e-starts : ss' ≡ sets ss at (starts_of (runs_of M base passed)))
-      (e-ends : es' ≡ sets es at (ends_of (runs_of M base passed))) where
-    -- the first joins, and the slot keeps its start
-    pub lists_joined : lost.joins ≡ true → (start : ℕ) → start ≡ get_or ss at 0
-        → take lost.runs (ranges_of (set ss' at start) es') ≡ runs_joined M (take n (ranges_of ss es)) (new_runs M base ns lost.limit)
-    lists_joined e start start_is =
-        let l = h.losing in
-        let slot : at ≡ n - 1 = at-is ∙ rw e in
-        rw (e-starts, e-ends, start_is, slot, same_gaps l.reaches, l.runs_are)
-        (listed_joined M ss es n h.within h.alike (new_runs M base ns lost.limit) (sym l.joins_is ∙ e) (omega (arith, l.runs_are, h.few)))
+  all_passed : passed ≡ lost_below M base ns lost.limit
+  all_passed = rw (take_rest ns lost.from) (same_gaps h.losing.reaches)
 
-    -- it doesn't
-    pub lists_behind : lost.joins ≡ false → take lost.runs (ranges_of ss' es') ≡ runs_joined M (take n (ranges_of ss es)) (new_runs M base ns lost.limit)
-    lists_behind e =
-        let l = h.losing in
-        let slot : at ≡ n = at-is ∙ rw e (omega arith) in
-        rw (e-starts, e-ends, slot, same_gaps l.reaches, l.runs_are)
-        (listed_behind M ss es n h.within h.alike (new_runs M base ns lost.limit) (sym l.joins_is ∙ e) (omega (arith, l.runs_are, h.few)))
+  -- the first joins the last listed one, whose slot keeps its start
+  pub lists_joined : lost.joins ≡ true → (k : ℕ) → (n - 1) + k ≡ length ss → (ss' es' : List ℕ)
+      → ss' ≡ sets (take k (drop (n - 1) ss)) 0 (starts_of (runs_of M base passed)) → es' ≡ sets (take k (drop (n - 1) es)) 0 (ends_of (runs_of M base passed))
+      → take lost.runs (ranges_of (set (put_mid (n - 1) k ss ss') (n - 1) (get_or ss (n - 1) 0)) (put_mid (n - 1) k es es'))
+      ≡ runs_joined M (take n (ranges_of ss es)) (new_runs M base ns lost.limit)
+  lists_joined e k room ss' es' s t =
+      let l = h.losing in
+      rw (
+        put_sets (n - 1) k ss (starts_of (runs_of M base passed)) ss' room s,
+        put_sets (n - 1) k es (ends_of (runs_of M base passed)) es' (omega (arith, h.alike)) t,
+        all_passed,
+        l.runs_are,
+      )
+      (listed_joined M ss es n h.within h.alike (new_runs M base ns lost.limit) (sym l.joins_is ∙ e) (omega (arith, l.runs_are, h.few)))
 
--- ---- the same, of terms that are equal
-
-module _ {M M' n n' : ℕ} {ns ns' : List ℕ} (base : ℕ) (e : M' ≡ M) (f : ns' ≡ ns) (g : n' ≡ n) where
-  pub lists_of : {lost : Losses} (ss es : List ℕ) → Losing lost M base ns (take n (ranges_of ss es)) → n ≤ length ss → length ss ≡ length es → lost.runs ≤ length ss
-      → Lists lost M' base ns' ss es n'
-  lists_of ss es losing within alike few = rw (e, f, g) (record { losing = losing; within = within; alike = alike; few = few })
+  -- it stands behind it
+  pub lists_behind : lost.joins ≡ false → (k : ℕ) → n + k ≡ length ss → (ss' es' : List ℕ)
+      → ss' ≡ sets (take k (drop n ss)) 0 (starts_of (runs_of M base passed)) → es' ≡ sets (take k (drop n es)) 0 (ends_of (runs_of M base passed))
+      → take lost.runs (ranges_of (put_mid n k ss ss') (put_mid n k es es')) ≡ runs_joined M (take n (ranges_of ss es)) (new_runs M base ns lost.limit)
+  lists_behind e k room ss' es' s t =
+      let l = h.losing in
+      rw (put_sets n k ss (starts_of (runs_of M base passed)) ss' room s, put_sets n k es (ends_of (runs_of M base passed)) es' (omega (arith, h.alike)) t, all_passed, l.runs_are)
+      (listed_behind M ss es n h.within h.alike (new_runs M base ns lost.limit) (sym l.joins_is ∙ e) (omega (arith, l.runs_are, h.few)))

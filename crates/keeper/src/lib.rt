@@ -1,89 +1,34 @@
-// The secondary's loss keeper (SeNB end): open, arrival, expiry, confirm, status, anything to say. The state is lent arrays of numbers,
-// changed in place: records in sending order (number, PDCP number, mark of confirmation), listed runs (start, end), and six
-// words: L, base, the reported highest, open or closed, how many runs, how many records. specs/View.antt says how they are read, and
+// The secondary's loss keeper (SeNB end): open, arrival, expiry, confirm, status, anything to say. The state is lent arrays of numbers (the
+// crate keeper_state), changed in place: records in sending order (number, PDCP number, mark of confirmation), listed runs (start, end), and
+// six words: L, base, the reported highest, open or closed, how many runs, how many records. specs/View.antt says how they are read, and
 // specs/Plain.antt which numbers calls leave in them.
 // Each call is judged (the crates keeper_judge and keeper_report) before anything is changed.
 #![tactic(auto)]
 
-ghost use Rattle.std.specs.Prelude.{◌≡◌, true, ◌∷◌, ◌++◌, ℕ, ◌+◌, ◌-◌, ◌≤◌, ◌<◌, min, length, get_or, take, drop};
-ghost use Rattle.basics.specs.Basics.{bit};
+ghost use Rattle.std.specs.Prelude.{◌≡◌, true, Ok, Err, ◌∷◌, ◌++◌, ◌+◌, ◌-◌, ◌≤◌, ◌<◌, length, take, drop};
+ghost use Rattle.refusal.specs.declared.Refusal.{Refusal};
+ghost use Rattle.refusal.specs.Numbers.{answer_of};
 ghost use Rattle.circle.specs.Lengths.{modulus, is_length};
-ghost use Rattle.frame_layout.specs.Frames.{ranges_of, most_ranges, write_status};
+ghost use Rattle.frame_layout.specs.Frames.{ranges_of, most_ranges, write_status as «write_status_of»};
 ghost use Rattle.frame_writer.specs.Answers.{left};
 ghost use Rattle.bearer.specs.Bearer.{most_runs, most_records};
 ghost use Rattle.bearer.specs.Losses.{new_runs, runs_joined};
-ghost use Rattle.bearer.specs.Keeper.{open_keeper, new_record, records_with, arrive as «arrive_of», expire as «expire_of», confirm as «confirm_of», status as «status_of», anything as «anything_of»};
-ghost use Rattle.keeper_state.specs.State.{opened_word, ◌saying_base◌, ◌saying_reported◌, ◌saying_opened◌, ◌saying_runs◌, ◌saying_records◌, modulus_in, held_in as «held_in_of», listed_in as «listed_in_of», records_of, state_in};
-ghost use Rattle.keeper_judge.specs.Judgements.{Losing};
-ghost use Rattle.keeper.specs.View.{word_count, words_in, words_of, fresh_words, shown_in, keeper_in, opened_as, counted_as, confirmed_as, reported_as, asked_as, opens_into, arrays};
-ghost use Rattle.keeper.specs.Plain.{Marked, Plain};
-ghost use Rattle.keeper.specs.Steps.{Lists, status_with, Builds};
+ghost use Rattle.bearer.specs.Keeper.{open_keeper, new_record, records_with, runs_after, arrive as «arrive_of», expire as «expire_of», confirm as «confirm_of», status as «status_of», anything as «anything_of», ◌with_base◌, ◌with_reported◌, ◌with_closed◌, ◌with_runs◌, ◌with_records◌};
+ghost use Rattle.keeper_state.specs.Lent.{arrays_of, keeper_of, state_shown, SameLoans};
+ghost use Rattle.keeper_judge.specs.Judgements.{Losing, Loses};
+ghost use Rattle.keeper.specs.View.{fresh_words, shown_in, answered, reported_as, opens_into};
+ghost use Rattle.keeper.specs.Plain.{Plain};
+ghost use Rattle.keeper.specs.Steps.{Becomes, status_with};
 
-use frame_writer::{Head, Wrote};
-use keeper_judge::{Arrival, Expiry, Losses};
-use keeper_report::{Found, Gone, Report};
-use keeper_state::Words;
-
-// How many words there are, and where each stands.
-const WORDS: usize = 6;
-
-const BITS: usize = 0;
-
-const BASE: usize = 1;
-
-const REPORTED: usize = 2;
-
-const OPENED: usize = 3;
-
-const RUNS: usize = 4;
-
-const RECORDS: usize = 5;
-
-// The lent arrays: a number of each record, one of each listed run, and the words.
-pub type RecordArray = keeper_state::RecordArray;
-
-pub type RunArray = keeper_state::RunArray;
-
-pub type WordArray = [u32; WORDS];
-
-// What an open answers.
-#[derive(Drop)]
-pub enum Opened {
-    Done,
-    Refused(u32),
-}
-
-// What an arrival or an expiry answers: how many numbers became lost.
-#[derive(Drop)]
-pub enum Counted {
-    Lost(u32),
-    Refused(u32),
-}
-
-// What a confirm answers.
-#[derive(Drop)]
-pub enum Confirmed {
-    Done,
-    Refused(u32),
-}
-
-// What a status answers: how many octets the frame has.
-#[derive(Drop)]
-pub enum Frame {
-    Octets(usize),
-    Refused(u32),
-}
-
-// What the question answers whether there is anything to say.
-#[derive(Drop)]
-pub enum Asked {
-    Yes,
-    No,
-    Refused(u32),
-}
+use frame_writer::Head;
+use keeper_judge::{Arrival, Losses};
+use keeper_loss::Point;
+pub use keeper_state::{RecordArray, RunArray, State, WordArray};
+use keeper_state::{Held, Words};
+use refusal::Refusal;
 
 // What the words say, for those who show a state: slots past a count are no part of it.
-#[derive(Clone, Copy)]
+#[derive(Clone, Copy, Debug, PartialEq, Eq)]
 pub struct Shown {
     pub base: u32,
     pub reported: u32,
@@ -92,233 +37,118 @@ pub struct Shown {
     pub records: usize,
 }
 
-// A frame that is built: how many octets it has, and what goes with it.
-#[derive(Drop)]
-enum Built {
-    Refused(u32),
-    Octets { octets: usize, gone: Gone },
-}
-
-// ---- the calls
+// ---- the calls, each promise by a name of its own, since C's calls cite them one by one
 
 // Opens the end: L, the first X2-U number and the first PDCP number.
-pub fn open(
-    numbers: &mut RecordArray,
-    pdcps: &mut RecordArray,
-    marks: &mut RecordArray,
-    starts: &mut RunArray,
-    ends: &mut RunArray,
-    words: &mut WordArray,
-    bits: u32,
-    number: u32,
-    pdcp: u32,
-) -> Opened
-    ensures words_after { opened_as result (keeper_in numbers.new pdcps.new marks.new starts.new ends.new words.new)
-        ≡ opens_into (keeper_in numbers.old pdcps.old marks.old starts.old ends.old words.old) (open_keeper bits number pdcp) }
-    ensures unchanged { (n : ℕ) → result ≡ Opened.Refused n → arrays numbers.new pdcps.new marks.new starts.new ends.new words.new
-        ≡ arrays numbers.old pdcps.old marks.old starts.old ends.old words.old }
-    ensures plain { result ≡ Opened.Done → Plain words.new marks.new }
+pub fn open(state: &mut State<'_>, bits: u32, number: u32, pdcp: u32) -> Result<(), Refusal>
+    ensures loans { SameLoans state.old state.new }
+    ensures words_after { answered result (keeper_of state.new) ≡ opens_into (keeper_of state.old) (open_keeper bits number pdcp) }
+    ensures unchanged { (e : Refusal) → result ≡ Err e → arrays_of state.new ≡ arrays_of state.old }
+    ensures plain { result ≡ Ok tt → Plain state.new.words.now state.new.marks.now }
 {
     if !circle::is_length(bits) {
-        return Opened::Refused(refusal::PDCP_LENGTH);
+        return Err(Refusal::PdcpLength);
     }
-    if circle::modulus(circle::is_long(bits)) <= number {
-        return Opened::Refused(refusal::NUMBER);
+    if circle::modulus(circle::is_long(bits)) <= number || circle::pdcps(bits) <= pdcp {
+        return Err(Refusal::Number);
     }
-    if circle::pdcps(bits) <= pdcp {
-        return Opened::Refused(refusal::NUMBER);
-    }
-    store(words, fresh(bits, number, pdcp));
-    Opened::Done
+    *state.words = fresh(bits, number, pdcp).into();
+    Ok(())
 }
 
-// Arrival of a number and a PDCP number.
-pub fn arrive(
-    numbers: &mut RecordArray,
-    pdcps: &mut RecordArray,
-    marks: &mut RecordArray,
-    starts: &mut RunArray,
-    ends: &mut RunArray,
-    words: &mut WordArray,
-    number: u32,
-    pdcp: u32,
-) -> Counted
-    ensures words_after { counted_as result (keeper_in numbers.new pdcps.new marks.new starts.new ends.new words.new)
-        ≡ «arrive_of» (keeper_in numbers.old pdcps.old marks.old starts.old ends.old words.old) number pdcp }
-    ensures unchanged { (n : ℕ) → result ≡ Counted.Refused n → arrays numbers.new pdcps.new marks.new starts.new ends.new words.new
-        ≡ arrays numbers.old pdcps.old marks.old starts.old ends.old words.old }
-    ensures plain { Plain words.old marks.old → Plain words.new marks.new }
+// Arrival of a number and a PDCP number: how many numbers became lost.
+pub fn arrive(state: &mut State<'_>, number: u32, pdcp: u32) -> Result<u32, Refusal>
+    ensures loans { SameLoans state.old state.new }
+    ensures words_after { answered result (keeper_of state.new) ≡ «arrive_of» (keeper_of state.old) number pdcp }
+    ensures unchanged { (e : Refusal) → result ≡ Err e → arrays_of state.new ≡ arrays_of state.old }
+    ensures plain { Plain state.old.words.now state.old.marks.now → Plain state.new.words.now state.new.marks.now }
 {
-    let w = read(words);
-    match keeper_judge::judge_arrival(w, numbers, pdcps, marks, starts, ends, number, pdcp) {
-        Arrival::Refused(n) => Counted::Refused(n),
-        Arrival::Accepted { place, plan } => {
-            let lost = plan.lost;
-            list_lost(numbers, starts, ends, w, lost);
-            let records = add_record(numbers, pdcps, marks, w.records, place, number, pdcp);
-            store_moved(words, plan.base, lost.runs, records);
-            Counted::Lost(lost.numbers)
-        }
-    }
+    let Arrival { place, plan } = keeper_judge::judge_arrival(&state.held(), number, pdcp)?;
+    list_lost(state, plan.lost);
+    add_record(state, place, number, pdcp);
+    move_base(state, plan.base);
+    Ok(plan.lost.numbers)
 }
 
-// Expiry: each open number before the mark is lost.
-pub fn expire(
-    numbers: &mut RecordArray,
-    pdcps: &mut RecordArray,
-    marks: &mut RecordArray,
-    starts: &mut RunArray,
-    ends: &mut RunArray,
-    words: &mut WordArray,
-    mark: u32,
-) -> Counted
-    ensures words_after { counted_as result (keeper_in numbers.new pdcps.new marks.new starts.new ends.new words.new)
-        ≡ «expire_of» (keeper_in numbers.old pdcps.old marks.old starts.old ends.old words.old) mark }
-    ensures unchanged { (n : ℕ) → result ≡ Counted.Refused n → arrays numbers.new pdcps.new marks.new starts.new ends.new words.new
-        ≡ arrays numbers.old pdcps.old marks.old starts.old ends.old words.old }
-    ensures plain { Plain words.old marks.old → Plain words.new marks.new }
+// Expiry: each open number before the mark is lost; how many became so.
+pub fn expire(state: &mut State<'_>, mark: u32) -> Result<u32, Refusal>
+    ensures loans { SameLoans state.old state.new }
+    ensures words_after { answered result (keeper_of state.new) ≡ «expire_of» (keeper_of state.old) mark }
+    ensures unchanged { (e : Refusal) → result ≡ Err e → arrays_of state.new ≡ arrays_of state.old }
+    ensures plain { Plain state.old.words.now state.old.marks.now → Plain state.new.words.now state.new.marks.now }
 {
-    let w = read(words);
-    match keeper_judge::judge_expiry(w, numbers, pdcps, marks, starts, ends, mark) {
-        Expiry::Refused(n) => Counted::Refused(n),
-        Expiry::Accepted(plan) => {
-            let lost = plan.lost;
-            list_lost(numbers, starts, ends, w, lost);
-            store_moved(words, plan.base, lost.runs, w.records);
-            Counted::Lost(lost.numbers)
-        }
-    }
+    let plan = keeper_judge::judge_expiry(&state.held(), mark)?;
+    list_lost(state, plan.lost);
+    move_base(state, plan.base);
+    Ok(plan.lost.numbers)
 }
 
 // A number is confirmed: its record is marked as delivered to the handset.
-pub fn confirm(
-    numbers: &mut RecordArray,
-    pdcps: &mut RecordArray,
-    marks: &mut RecordArray,
-    starts: &mut RunArray,
-    ends: &mut RunArray,
-    words: &mut WordArray,
-    number: u32,
-) -> Confirmed
-    ensures words_after { confirmed_as result (keeper_in numbers.new pdcps.new marks.new starts.new ends.new words.new)
-        ≡ «confirm_of» (keeper_in numbers.old pdcps.old marks.old starts.old ends.old words.old) number }
-    ensures unchanged { (n : ℕ) → result ≡ Confirmed.Refused n → arrays numbers.new pdcps.new marks.new starts.new ends.new words.new
-        ≡ arrays numbers.old pdcps.old marks.old starts.old ends.old words.old }
-    ensures plain { Plain words.old marks.old → Plain words.new marks.new }
+pub fn confirm(state: &mut State<'_>, number: u32) -> Result<(), Refusal>
+    ensures loans { SameLoans state.old state.new }
+    ensures words_after { answered result (keeper_of state.new) ≡ «confirm_of» (keeper_of state.old) number }
+    ensures unchanged { (e : Refusal) → result ≡ Err e → arrays_of state.new ≡ arrays_of state.old }
+    ensures plain { Plain state.old.words.now state.old.marks.now → Plain state.new.words.now state.new.marks.now }
 {
-    match keeper_report::judge_confirm(read(words), numbers, pdcps, marks, number) {
-        Found::Refused(n) => Confirmed::Refused(n),
-        Found::At(at) => {
-            marks[at] = 1;
-            Confirmed::Done
-        }
-    }
+    let at = keeper_report::judge_confirm(&state.held(), number)?;
+    state.marks[at] = 1;
+    Ok(())
 }
 
-// A status frame at the front of dst: the first runs listed, and the highest PDCP number delivered in sequence.
+// A status frame at the front of dst: the first runs listed, and the highest PDCP number delivered in sequence. How many octets it has.
 pub fn status(
-    numbers: &mut RecordArray,
-    pdcps: &mut RecordArray,
-    marks: &mut RecordArray,
-    starts: &mut RunArray,
-    ends: &mut RunArray,
-    words: &mut WordArray,
+    state: &mut State<'_>,
     desired: u32,
     minimum: u32,
     last: bool,
     dst: &mut [u8],
-) -> Frame
-    ensures dst_after { reported_as result (keeper_in numbers.new pdcps.new marks.new starts.new ends.new words.new) dst.new
-        ≡ «status_of» (keeper_in numbers.old pdcps.old marks.old starts.old ends.old words.old) desired minimum last dst.old }
-    ensures unchanged { (n : ℕ) → result ≡ Frame.Refused n → arrays numbers.new pdcps.new marks.new starts.new ends.new words.new
-        ≡ arrays numbers.old pdcps.old marks.old starts.old ends.old words.old }
-    ensures plain { Plain words.old marks.old → Plain words.new marks.new }
+) -> Result<usize, Refusal>
+    ensures loans { SameLoans state.old state.new }
+    ensures dst_after { reported_as result (keeper_of state.new) dst.new ≡ «status_of» (keeper_of state.old) desired minimum last dst.old }
+    ensures unchanged { (e : Refusal) → result ≡ Err e → arrays_of state.new ≡ arrays_of state.old }
+    ensures plain { Plain state.old.words.now state.old.marks.now → Plain state.new.words.now state.new.marks.now }
 {
-    let w = read(words);
-    match build(
-        w, numbers, pdcps, marks, starts, ends, desired, minimum, last, dst,
-    ) {
-        Built::Refused(n) => Frame::Refused(n),
-        Built::Octets { octets, gone } => {
-            let runs = drop_runs(starts, ends, w.runs);
-            let records = drop_records(numbers, pdcps, marks, w.records, gone.count);
-            store_reported(words, gone.highest, last, runs, records);
-            Frame::Octets(octets)
-        }
-    }
+    let held = state.held();
+    let gone = keeper_report::judge_status(&held, last)?;
+    let head = Head {
+        long: circle::is_long(held.words.bits),
+        last,
+        highest: gone.highest,
+        desired,
+        minimum,
+    };
+    let octets = write_runs(head, &held, dst)?;
+    drop_runs(state);
+    drop_records(state, gone.count);
+    report(state, gone.highest, last);
+    Ok(octets)
 }
 
-// Anything to say: would a status now carry a range or let go of a record? The state is only read.
-pub fn anything(
-    numbers: &RecordArray,
-    pdcps: &RecordArray,
-    marks: &RecordArray,
-    starts: &RunArray,
-    ends: &RunArray,
-    words: &WordArray,
-) -> Asked
-    ensures { asked_as result ≡ «anything_of» (keeper_in numbers.now pdcps.now marks.now starts.now ends.now words.now) }
+// Anything to say: would a status now carry a range or let go of a record? What is held is only read.
+pub fn anything(held: &Held<'_>) -> Result<bool, Refusal>
+    ensures { answer_of (λ yes. yes) result ≡ «anything_of» (state_shown held.now) }
 {
-    let w = read(words);
-    if !keeper_state::is_open(w.opened) {
-        return Asked::Refused(refusal::CLOSED);
+    if !held.words.is_open() {
+        return Err(Refusal::Closed);
     }
-    if keeper_report::has_news(w, numbers, pdcps, marks, starts, ends) {
-        return Asked::Yes;
-    }
-    Asked::No
+    Ok(keeper_report::has_news(held))
 }
 
 // What the words say.
-pub fn show(words: &WordArray) -> Shown
-    ensures { result ≡ shown_in words.now }
+pub fn show(state: &State<'_>) -> Shown
+    ensures { result ≡ shown_in state.now.words.now }
 {
-    let w = read(words);
+    let words = Words::from(*state.words);
     Shown {
-        base: w.base,
-        reported: w.reported,
-        closed: !keeper_state::is_open(w.opened),
-        runs: listed_in(w.runs),
-        records: held_in(w.records),
+        base: words.base,
+        reported: words.reported,
+        closed: !words.is_open(),
+        runs: words.listed(),
+        records: words.held(),
     }
 }
 
 // ---- the words
-
-// The words as they stand.
-fn read(words: &WordArray) -> Words
-    ensures { result ≡ words_in words.now }
-{
-    Words {
-        bits: words[BITS],
-        base: words[BASE],
-        reported: words[REPORTED],
-        opened: words[OPENED],
-        runs: words[RUNS],
-        records: words[RECORDS],
-    }
-}
-
-// All are written, in the order of their places.
-fn store(words: &mut WordArray, w: Words)
-    ensures { words.new ≡ words_of w }
-{
-    *words = [w.bits, w.base, w.reported, w.opened, w.runs, w.records];
-}
-
-// How many runs a word says are listed: a count past the end counts as full.
-fn listed_in(word: u32) -> usize
-    ensures { result ≡ min word most_runs }
-{
-    basics::least(word as usize, keeper_state::MOST_RUNS)
-}
-
-// How many records a word says are held: a count past the end counts as full.
-fn held_in(word: u32) -> usize
-    ensures { result ≡ min word most_records }
-{
-    basics::least(word as usize, keeper_state::MOST_RECORDS)
-}
 
 // The words of a fresh end: the reported highest is the PDCP number before the first, forward from 1 to it.
 fn fresh(bits: u32, number: u32, pdcp: u32) -> Words
@@ -326,7 +156,7 @@ fn fresh(bits: u32, number: u32, pdcp: u32) -> Words
     ensures { result ≡ fresh_words bits number pdcp }
 {
     Words {
-        bits: bits,
+        bits,
         base: number,
         reported: circle::forward(1, pdcp, bits),
         opened: keeper_state::opened_word(false),
@@ -335,170 +165,154 @@ fn fresh(bits: u32, number: u32, pdcp: u32) -> Words
     }
 }
 
-// Those that change are written when base moved and numbers were lost.
-fn store_moved(words: &mut [u32], base: u32, runs: usize, records: u32)
-    requires { (length words.old ≡ word_count) × (runs ≤ most_runs) }
-    ensures { words.new ≡ words_of (words_in words.old saying_base base saying_runs runs saying_records records) }
+// Base moves.
+fn move_base(state: &mut State<'_>, base: u32)
+    ensures { Becomes state.old state.new (keeper_of state.old with_base base) }
 {
-    words[BASE] = base;
-    words[RUNS] = runs as u32;
-    words[RECORDS] = records;
+    *state.words = Words {
+        base,
+        ..state.held().words
+    }
+    .into();
 }
 
-// Those that change are written after a status.
-fn store_reported(words: &mut [u32], highest: u32, last: bool, runs: u32, records: u32)
-    requires { length words.old ≡ word_count }
-    ensures { words.new ≡ words_of (words_in words.old saying_reported highest saying_opened opened_word last saying_runs runs saying_records records) }
+// A status reports the highest, and the last one closes.
+fn report(state: &mut State<'_>, highest: u32, last: bool)
+    ensures { Becomes state.old state.new (keeper_of state.old with_reported highest with_closed last) }
 {
-    words[REPORTED] = highest;
-    words[OPENED] = keeper_state::opened_word(last);
-    words[RUNS] = runs;
-    words[RECORDS] = records;
+    *state.words = Words {
+        reported: highest,
+        opened: keeper_state::opened_word(last),
+        ..state.held().words
+    }
+    .into();
 }
 
 // ---- runs
 
 // Lists what is lost behind the runs that are listed.
-fn list_lost(
-    numbers: &RecordArray,
-    starts: &mut RunArray,
-    ends: &mut RunArray,
-    w: Words,
-    lost: Losses,
-)
-    requires { Losing lost (modulus_in w) w.base (take («held_in_of» w) numbers.now) (take («listed_in_of» w) (ranges_of starts.old ends.old)) × (lost.runs ≤ most_runs) }
-    ensures { take lost.runs (ranges_of starts.new ends.new)
-        ≡ runs_joined (modulus_in w) (take («listed_in_of» w) (ranges_of starts.old ends.old)) (new_runs (modulus_in w) w.base (take («held_in_of» w) numbers.now) lost.limit) }
+fn list_lost(state: &mut State<'_>, lost: Losses)
+    requires { Loses lost (keeper_of state.old) }
+    ensures { Becomes state.old state.new (keeper_of state.old with_runs runs_after (keeper_of state.old) lost.limit) }
 {
-    let listed = listed_in(w.runs);
-    let held = basics::front_words(numbers, w.records as usize);
+    // Nothing lies below base itself: the usual arrival ends here.
+    if lost.limit == 0 {
+        return;
+    }
+    let words = state.held().words;
+    let starts = &mut *state.starts;
+    let ends = &mut *state.ends;
+    let numbers = basics::front(state.numbers, words.held());
     list_runs(
-        held,
-        w.base,
-        circle::is_long(w.bits),
+        Point::from(words),
+        numbers,
         lost,
         starts,
         ends,
-        listed,
+        words.listed(),
+    );
+    *state.words = Words {
+        runs: lost.runs as u32,
+        ..words
+    }
+    .into();
+}
+
+// Lists what is lost behind so many runs, where these numbers are held. Starts, ends and their count stand side by side, as C lends them.
+fn list_runs(
+    base: Point,
+    numbers: &[u32],
+    lost: Losses,
+    starts: &mut RunArray,
+    ends: &mut RunArray,
+    listed: usize,
+)
+    requires { Losing lost (modulus base.long) base.at numbers.now (take listed (ranges_of starts.old ends.old)) × (listed ≤ most_runs) × (lost.runs ≤ most_runs) }
+    ensures { take lost.runs (ranges_of starts.new ends.new)
+        ≡ runs_joined (modulus base.long) (take listed (ranges_of starts.old ends.old)) (new_runs (modulus base.long) base.at numbers.now lost.limit) }
+{
+    let numbers = &numbers[lost.from..];
+    if lost.joins {
+        // The last listed run grows: it keeps its start.
+        let last = listed - 1;
+        let start = starts[last];
+        base.list_gaps(numbers, lost.limit, &mut starts[last..], &mut ends[last..]);
+        starts[last] = start;
+        return;
+    }
+    base.list_gaps(
+        numbers,
+        lost.limit,
+        &mut starts[listed..],
+        &mut ends[listed..],
     );
 }
 
-// Lists what is lost behind so many runs.
-fn list_runs(
-    numbers: &[u32],
-    base: u32,
-    long: bool,
-    lost: Losses,
-    starts: &mut [u32],
-    ends: &mut [u32],
-    listed: usize,
-)
-    requires { Lists lost (modulus long) base numbers.now starts.old ends.old listed }
-    ensures { take lost.runs (ranges_of starts.new ends.new)
-        ≡ runs_joined (modulus long) (take listed (ranges_of starts.old ends.old)) (new_runs (modulus long) base numbers.now lost.limit) }
+// Takes the runs that a status carries off the front of those listed.
+fn drop_runs(state: &mut State<'_>)
+    ensures { Becomes state.old state.new (keeper_of state.old with_runs drop most_ranges (keeper_of state.old).runs) }
 {
-    let from = lost.from;
-    let joins = lost.joins;
-    let at = slot_of(listed, joins);
-    let start = word_at(starts, at);
-    keeper_loss::list_gaps(&numbers[from..], base, long, lost.limit, starts, ends, at);
-    if !joins {
-        return;
+    let words = state.held().words;
+    let listed = words.listed();
+    let carried = listed.min(frame_layout::MOST_RANGES);
+    take_off(state.starts, listed, carried);
+    take_off(state.ends, listed, carried);
+    *state.words = Words {
+        runs: (listed - carried) as u32,
+        ..words
     }
-    // The last listed run grows: it keeps its start.
-    starts[at] = start;
-}
-
-// The slot of the first new run: behind the last listed one, or that one's own where the two join.
-fn slot_of(listed: usize, joins: bool) -> usize
-    requires { bit joins ≤ listed }
-    ensures { result ≡ listed - bit joins }
-{
-    if joins {
-        return listed - 1;
-    }
-    listed
-}
-
-// What a slot holds; 0 past the end.
-fn word_at(a: &[u32], at: usize) -> u32
-    ensures { result ≡ get_or a.now at 0 }
-{
-    if at < a.len() {
-        return a[at];
-    }
-    0
-}
-
-// Takes the runs that a status carries off the front of those listed; answers how many are left.
-fn drop_runs(starts: &mut RunArray, ends: &mut RunArray, word: u32) -> u32
-    ensures ends_after { take (min result most_runs) (ranges_of starts.new ends.new)
-        ≡ drop most_ranges (take (min word most_runs) (ranges_of starts.old ends.old)) }
-    ensures upper_bound { result ≤ most_runs }
-{
-    let listed = listed_in(word);
-    let carried = basics::least(listed, frame_layout::MOST_RANGES);
-    take_off(starts, listed, carried);
-    take_off(ends, listed, carried);
-    (listed - carried) as u32
+    .into();
 }
 
 // ---- records
 
-// Puts a new record at a place among those held; answers how many there are then.
-fn add_record(
-    numbers: &mut RecordArray,
-    pdcps: &mut RecordArray,
-    marks: &mut RecordArray,
-    word: u32,
-    place: usize,
-    number: u32,
-    pdcp: u32,
-) -> u32
-    requires { (place ≤ min word most_records) × (min word most_records < most_records) }
-    ensures marks_after { take (min result most_records) (records_of numbers.new pdcps.new marks.new)
-        ≡ records_with (take (min word most_records) (records_of numbers.old pdcps.old marks.old)) place (new_record number pdcp) }
-    ensures marked { Marked word marks.old → Marked result marks.new }
+// Puts a new record at a place among those held.
+fn add_record(state: &mut State<'_>, place: usize, number: u32, pdcp: u32)
+    requires { (place ≤ length (keeper_of state.old).records) × (length (keeper_of state.old).records < most_records) }
+    ensures { Becomes state.old state.new (keeper_of state.old with_records records_with (keeper_of state.old).records place (new_record number pdcp)) }
 {
-    let held = held_in(word);
-    put_in(numbers, held, place, number);
-    put_in(pdcps, held, place, pdcp);
-    put_in(marks, held, place, 0);
-    held as u32 + 1
+    let words = state.held().words;
+    let held = words.held();
+    put_in(state.numbers, held, place, number);
+    put_in(state.pdcps, held, place, pdcp);
+    put_in(state.marks, held, place, 0);
+    *state.words = Words {
+        records: held as u32 + 1,
+        ..words
+    }
+    .into();
 }
 
-// Puts a number at a place among those held at the front of an array.
-fn put_in(a: &mut [u32], held: usize, place: usize, v: u32)
-    requires { (place ≤ held) × (held < length a.old) }
+// Takes records off the front of those held.
+fn drop_records(state: &mut State<'_>, gone: usize)
+    requires { gone ≤ length (keeper_of state.old).records }
+    ensures { Becomes state.old state.new (keeper_of state.old with_records drop gone (keeper_of state.old).records) }
+{
+    let words = state.held().words;
+    let held = words.held();
+    take_off(state.numbers, held, gone);
+    take_off(state.pdcps, held, gone);
+    take_off(state.marks, held, gone);
+    *state.words = Words {
+        records: (held - gone) as u32,
+        ..words
+    }
+    .into();
+}
+
+// ---- numbers at the front of an array, whose count is a word beside it, as C lends them
+
+// Puts one at a place among those held.
+fn put_in(a: &mut RecordArray, held: usize, place: usize, v: u32)
+    requires { (place ≤ held) × (held < most_records) }
     ensures { take (held + 1) a.new ≡ take place (take held a.old) ++ v ∷ drop place (take held a.old) }
 {
-    let end = held + 1;
-    keeper_shelf::insert(&mut a[..end], place, v);
+    keeper_shelf::insert(&mut a[..=held], place, v);
 }
 
-// Takes records off the front of those held; answers how many are left.
-fn drop_records(
-    numbers: &mut RecordArray,
-    pdcps: &mut RecordArray,
-    marks: &mut RecordArray,
-    word: u32,
-    gone: usize,
-) -> u32
-    requires { gone ≤ min word most_records }
-    ensures marks_after { take (min result most_records) (records_of numbers.new pdcps.new marks.new)
-        ≡ drop gone (take (min word most_records) (records_of numbers.old pdcps.old marks.old)) }
-    ensures marked { Marked word marks.old → Marked result marks.new }
-{
-    let held = held_in(word);
-    take_off(numbers, held, gone);
-    take_off(pdcps, held, gone);
-    take_off(marks, held, gone);
-    (held - gone) as u32
-}
-
-// Takes the first k off the numbers held at the front of an array.
-fn take_off(a: &mut [u32], held: usize, k: usize)
-    requires { (k ≤ held) × (held ≤ length a.old) }
+// Takes the first k off those held.
+fn take_off<const N: usize>(a: &mut [u32; N], held: usize, k: usize)
+    requires { (k ≤ held) × (held ≤ N) }
     ensures { take (held - k) a.new ≡ drop k (take held a.old) }
 {
     keeper_shelf::drop_front(&mut a[..held], k);
@@ -506,51 +320,14 @@ fn take_off(a: &mut [u32], held: usize, k: usize)
 
 // ---- the frame
 
-// Builds the frame of a status; the state stays as it is.
-fn build(
-    w: Words,
-    numbers: &RecordArray,
-    pdcps: &RecordArray,
-    marks: &RecordArray,
-    starts: &RunArray,
-    ends: &RunArray,
-    desired: u32,
-    minimum: u32,
-    last: bool,
-    dst: &mut [u8],
-) -> Built
-    ensures { Builds result (state_in w numbers.now pdcps.now marks.now starts.now ends.now) desired minimum last dst.old dst.new }
-{
-    match keeper_report::judge_status(w, numbers, pdcps, marks, starts, ends, last) {
-        Report::Refused(n) => Built::Refused(n),
-        Report::Says(gone) => {
-            let head = Head {
-                long: circle::is_long(w.bits),
-                last: last,
-                highest: gone.highest,
-                desired: desired,
-                minimum: minimum,
-            };
-            match write_runs(head, w.runs, starts, ends, dst) {
-                Wrote::Refused(n) => Built::Refused(n),
-                Wrote::Octets(n) => Built::Octets {
-                    octets: n,
-                    gone: gone,
-                },
-            }
-        }
-    }
-}
-
 // A status frame with the first runs of those listed.
-fn write_runs(head: Head, word: u32, starts: &RunArray, ends: &RunArray, dst: &mut [u8]) -> Wrote
-    ensures { left result dst.new ≡ write_status (status_with head (take most_ranges (take (min word most_runs) (ranges_of starts.now ends.now)))) dst.old }
+fn write_runs(head: Head, held: &Held<'_>, dst: &mut [u8]) -> Result<usize, Refusal>
+    ensures { left result dst.new ≡ «write_status_of» (status_with head (take most_ranges (state_shown held.now).runs)) dst.old }
 {
-    let carried = basics::least(listed_in(word), frame_layout::MOST_RANGES);
     frame_writer::write_status(
         head,
-        basics::front_words(starts, carried),
-        basics::front_words(ends, carried),
+        basics::front(held.starts, frame_layout::MOST_RANGES),
+        basics::front(held.ends, frame_layout::MOST_RANGES),
         dst,
     )
 }

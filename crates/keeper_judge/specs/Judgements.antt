@@ -1,16 +1,18 @@
 -- What a judgement means: the machine's answer and the state that it leaves (the crate bearer, Keeper.antt), and of an accepted
 -- arrival or expiry what is given up, so that it can be listed without judging again.
 -- Assumes nothing.
-use Rattle.std.specs.Prelude.{◌≡◌, Bool, false, List, [], ◌∷◌, ℕ, ◌≤◌, ◌<◌, length, drop}
+use Rattle.std.specs.Prelude.{◌≡◌, Bool, false, List, [], ◌∷◌, Option, Some, None, Result, Ok, Err, ℕ, ◌+◌, ◌%◌, ◌≤◌, ◌<◌, length, drop}
 use Rattle.circle.specs.Lengths.{modulus_of}
 use Rattle.frame_layout.specs.Frames.{Range, ends_of}
+use Rattle.refusal.specs.Numbers.{number_of}
+use Rattle.refusal.specs.declared.Refusal.{Refusal}
+use Rattle.refusal.specs.declared.Refusal.TheVariants.{Runs}
 use Rattle.bearer.specs.Bearer.{After, refusing, answering, most_runs, most_records}
 use Rattle.bearer.specs.Losses.{from_base, lost_below, size_of, new_runs, adjoins, runs_joined}
 use Rattle.bearer.specs.Keeper.{Keeper, new_record, records_with, held, runs_after, arrive_on, arrive, expire_below, expire, ◌with_base◌, ◌with_runs◌, ◌with_records◌}
 use Rattle.keeper_judge.specs.declared.Losses.{Losses}
 use Rattle.keeper_judge.specs.declared.Plan.{Plan}
-use Rattle.keeper_judge.specs.declared.Arrival as A
-use Rattle.keeper_judge.specs.declared.Expiry as E
+use Rattle.keeper_judge.specs.declared.Arrival.{Arrival}
 
 -- ---- what is given up
 
@@ -25,14 +27,18 @@ abbrev pub first_adjoins : ℕ → List ℕ → List Range → Bool
 first_adjoins M es [] = false
 first_adjoins M es (r ∷ rs) = adjoins_last M es r.start
 
--- nothing, when so many runs are listed
-abbrev pub none_lost : ℕ → ℕ → ℕ → Losses
-none_lost from limit listed = record { from = from; limit = limit; numbers = 0; runs = listed; joins = false }
+-- whether one that starts so far from base does, if there is one
+abbrev pub joins_from : ℕ → ℕ → List ℕ → Option ℕ → Bool
+joins_from M base es None = false
+joins_from M base es (Some d) = adjoins_last M es ((base + d) % M)
 
 -- the numbers from `from` on are those at or past base, where anything is given up
-pub record Reaches (lost : Losses) (M base : ℕ) (ns : List ℕ) : Type 0 where
-  pub within : lost.from ≤ length ns
-  pub from_is : 0 < lost.limit → drop lost.from ns ≡ from_base M base ns
+pub record ReachesFrom (from limit M base : ℕ) (ns : List ℕ) : Type 0 where
+  pub within : from ≤ length ns
+  pub from_is : 0 < limit → drop from ns ≡ from_base M base ns
+
+abbrev pub Reaches : Losses → ℕ → ℕ → List ℕ → Type 0
+Reaches lost M base ns = ReachesFrom lost.from lost.limit M base ns
 
 -- what is lost below the limit where these numbers have records, when these runs are listed
 pub record Losing (lost : Losses) (M base : ℕ) (ns : List ℕ) (runs : List Range) : Type 0 where
@@ -46,6 +52,11 @@ pub record Loses (lost : Losses) (k : Keeper) : Type 0 where
   pub losing : Losing lost (modulus_of k.bits) k.base (held k) k.runs
   pub few : lost.runs ≤ most_runs
 
+-- what it loses below a limit, or 14 for more runs
+abbrev pub JudgesLosses : Result Losses Refusal → Keeper → ℕ → Type 0
+JudgesLosses (Err r) k l = (r ≡ Runs) × (most_runs < length (runs_after k l))
+JudgesLosses (Ok lost) k l = (lost.limit ≡ l) × Loses lost k
+
 -- ---- arrival
 
 -- an accepted arrival: there is room at its place, and the state is the machine's
@@ -57,16 +68,16 @@ pub record AcceptsArrival (place : ℕ) (plan : Plan) (k : Keeper) (n p : ℕ) (
       ≡ answering plan.lost.numbers (k with_base plan.base with_runs runs_after k plan.lost.limit with_records records_with k.records place (new_record n p))
 
 -- a judgement of an arrival is an outcome of the machine's
-abbrev pub ArrivalIs : A.Arrival → Keeper → ℕ → ℕ → After Keeper ℕ → Type 0
-ArrivalIs (A.TheVariants.Refused m) k n p o = o ≡ refusing m k
-ArrivalIs (A.TheVariants.Accepted place plan) k n p o = AcceptsArrival place plan k n p o
+abbrev pub ArrivalIs : Result Arrival Refusal → Keeper → ℕ → ℕ → After Keeper ℕ → Type 0
+ArrivalIs (Err r) k n p o = o ≡ refusing (number_of r) k
+ArrivalIs (Ok a) k n p o = AcceptsArrival a.place a.plan k n p o
 
 -- ... that of the call
-abbrev pub JudgesArrival : A.Arrival → Keeper → ℕ → ℕ → Type 0
+abbrev pub JudgesArrival : Result Arrival Refusal → Keeper → ℕ → ℕ → Type 0
 JudgesArrival r k n p = ArrivalIs r k n p (arrive k n p)
 
 -- ... that of a number that doesn't lie before base
-abbrev pub JudgesPlace : A.Arrival → Keeper → ℕ → ℕ → Type 0
+abbrev pub JudgesPlace : Result Arrival Refusal → Keeper → ℕ → ℕ → Type 0
 JudgesPlace r k n p = ArrivalIs r k n p (arrive_on k n p)
 
 -- ---- expiry
@@ -77,14 +88,14 @@ pub record AcceptsExpiry (plan : Plan) (k : Keeper) (o : After Keeper ℕ) : Typ
   pub outcome : o ≡ answering plan.lost.numbers (k with_base plan.base with_runs runs_after k plan.lost.limit)
 
 -- a judgement of an expiry is an outcome of the machine's
-abbrev pub ExpiryIs : E.Expiry → Keeper → After Keeper ℕ → Type 0
-ExpiryIs (E.TheVariants.Refused m) k o = o ≡ refusing m k
-ExpiryIs (E.TheVariants.Accepted plan) k o = AcceptsExpiry plan k o
+abbrev pub ExpiryIs : Result Plan Refusal → Keeper → After Keeper ℕ → Type 0
+ExpiryIs (Err r) k o = o ≡ refusing (number_of r) k
+ExpiryIs (Ok plan) k o = AcceptsExpiry plan k o
 
 -- ... that of the call
-abbrev pub JudgesExpiry : E.Expiry → Keeper → ℕ → Type 0
+abbrev pub JudgesExpiry : Result Plan Refusal → Keeper → ℕ → Type 0
 JudgesExpiry r k n = ExpiryIs r k (expire k n)
 
 -- ... that of what is open below a distance
-abbrev pub JudgesGaps : E.Expiry → Keeper → ℕ → Type 0
+abbrev pub JudgesGaps : Result Plan Refusal → Keeper → ℕ → Type 0
 JudgesGaps r k d = ExpiryIs r k (expire_below k d)

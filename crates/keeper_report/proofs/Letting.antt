@@ -1,82 +1,76 @@
--- The machine's judgement of a status, and what it lets go, one record at a time.
+-- The machine's judgement of a status, and what it lets go.
 -- Assumes nothing.
 use Rattle.std.specs.Prelude.{if◌then◌else◌}
-use mathlib.Core.Path.{◌≡◌, refl, ◌∙◌, ap}
-use mathlib.Core.Bool.{Bool, true, false}
-use mathlib.Core.List.{List, [], ◌∷◌}
-use Prim.Native.Nat.{ℕ, zero, suc, ◌+◌, ◌≤◌, ◌<◌}
-use native.Mathlib.Omega.{arith}
-use native.Mathlib.Numerals.{add-one}
-use lib.Dec.{ltb}
-use lib.ListN.{length, get_or, drop}
-use lib.Seq.{drop-cons}
+use Rattle.std.proofs.Common.{◌≡◌, Bool, true, false, List, [], ◌∷◌, ℕ, zero, suc, ◌+◌, ◌-◌, ◌≤◌, min, length, take, drop, cond, refl, sym, ◌∙◌, ap, arith}
+use Rattle.std.specs.List.{zip, prefix_len, take_while, slice_get, drop-map}
+use Rattle.std.specs.Option.{unwrap_or}
+use Rattle.std.proofs.lemmas.List.{drop_min, length-take-le, get_or-take, get_or_default}
+use Rattle.std.proofs.lemmas.List.Folds.{length-prefix_len}
+use Rattle.std.proofs.lemmas.Option.{unwrap_or-slice_get}
+use Rattle.std.proofs.Math.Dec.{ltb}
 use Rattle.basics.specs.Basics.{◌and◌, is_set}
+use Rattle.circle.specs.Lengths.{length_in, is_long, modulus}
 use Rattle.frame_layout.specs.Frames.{Range, starts_of, most_ranges, write_status}
 use Rattle.bearer.specs.Losses.{goes_before}
-use Rattle.bearer.specs.Keeper.{Keeper, Record, no_record, run_with, let_go, highest_of, unreported, status_now, reported_as, status}
-use Rattle.keeper_state.specs.declared.Words.{Words}
-use Rattle.keeper_state.specs.State.{is_open, modulus_in, state_of, records_of}
-use Rattle.keeper_report.specs.Reports.{gone_of, goes, highest_at}
-use Rattle.keeper_state.proofs.Records.{record_of, record_at_lem, records_count}
+use Rattle.bearer.specs.Keeper.{Keeper, Record, run_with, may_go, let_go, highest_of, unreported, status_now, reported_as, status}
+use Rattle.bearer.proofs.Lists.Elements.{run_within}
+use Rattle.keeper_state.specs.declared.Held.{Held}
+use Rattle.keeper_state.specs.State.{records_of}
+use Rattle.keeper_state.specs.Lent.{state_shown}
+use Rattle.keeper_state.proofs.Showing.{starts_shown, count_shown, record_shown}
+use Rattle.keeper_report.specs.Reports.{gone_of, goes}
 
--- ---- 22
+-- ---- 22, or as the writer answers
 
-module _ (w : Words) (runs : List Range) (records : List Record) (final : Bool) (desired minimum : ℕ) (d : List ℕ) where
-  abbrev state : Keeper
-  state = state_of w runs records
+module _ (k : Keeper) (opened : k.closed ≡ false) (final : Bool) (desired minimum : ℕ) (d : List ℕ) where
+  pub too_early : final and ltb most_ranges (length k.runs) ≡ true → status k desired minimum final d ≡ unreported 22 k d
+  too_early e = rw (opened, e)
 
-  module _ (opened : is_open w.opened ≡ true) where
-    pub left_out_lem : final and ltb most_ranges (length runs) ≡ true → status state desired minimum final d ≡ unreported 22 state d
-    left_out_lem h = rw (opened, h)
+  pub written : final and ltb most_ranges (length k.runs) ≡ false → status k desired minimum final d ≡ reported_as k final (write_status (status_now k desired minimum final) d)
+  written e = rw (opened, e)
 
-    -- as the writer answers
-    pub written : final and ltb most_ranges (length runs) ≡ false
-        → status state desired minimum final d ≡ reported_as state final (write_status (status_now state desired minimum final) d)
-    written h = rw (opened, h)
+-- ---- what is let go
 
--- ---- the records from place i on
-
--- no more go than there are
-pub run_within : (p : Record → Bool) (rs : List Record) → run_with p rs ≤ length rs
-run_within p [] = omega arith
-run_within p (r ∷ rs) = by_test (p r) (run_within p rs)
+-- what goes of numbers and marks goes of records
+run_is : (M : ℕ) (ss ns ps cs : List ℕ) → length ps ≡ length ns → length cs ≡ length ns
+    → prefix_len (goes M ss) (zip ns cs) ≡ run_with (λ (r : Record). goes_before M ss r.number r.confirmed) (records_of ns ps cs)
+run_is M ss [] ps cs lp lc = refl
+run_is M ss (n ∷ ns) [] cs lp lc = absurd (omega arith)
+run_is M ss (n ∷ ns) (p ∷ ps) [] lp lc = absurd (omega arith)
+run_is M ss (n ∷ ns) (p ∷ ps) (c ∷ cs) lp lc = by_test (goes_before M ss n (is_set c)) (run_is M ss ns ps cs (omega arith) (omega arith))
   where
-    by_test : (t : Bool) → run_with p rs ≤ length rs → (if t then suc (run_with p rs) else 0) ≤ suc (length rs)
-    by_test true h = omega arith
-    by_test false h = omega arith
+    by_test : {i j : ℕ} (t : Bool) → i ≡ j → cond t (1 + i) 0 ≡ (if t then suc j else 0)
+    by_test true e = omega arith
+    by_test false e = refl
 
-module _ (ns ps cs : List ℕ) (lp : length ns ≡ length ps) (lc : length ns ≡ length cs) where
-  -- as many as there are numbers
-  pub count_all : length (records_of ns ps cs) ≡ length ns
-  count_all = omega (arith, records_count ns ps cs)
+module _ (h : Held) where
+  -- the starts of the runs left out
+  left_out : drop (min most_ranges (length h.starts.now)) h.starts.now ≡ starts_of (drop most_ranges (state_shown h).runs)
+  left_out = drop_min most_ranges h.starts.now ∙ ap (drop most_ranges) (sym (starts_shown h)) ∙ drop-map (λ (r : Range). r.start) most_ranges (state_shown h).runs
 
-  module _ (M : ℕ) (ss : List ℕ) (i : ℕ) (h : i < length ns) where
-    from_here : drop i (records_of ns ps cs) ≡ record_of (get_or ns i 0) (get_or ps i 0) (get_or cs i 0) ∷ drop (i + 1) (records_of ns ps cs)
-    from_here = rw (drop-cons (records_of ns ps cs) i no_record (omega (arith, count_all)), record_at_lem i ns ps cs h (omega arith) (omega arith), add-one i)
+  -- what goes is what the machine lets go
+  pub goes_is : {long : Bool} {i : ℕ} → long ≡ is_long (length_in h.words.bits) → i ≡ min most_ranges (length h.starts.now)
+      → length (take_while (goes (modulus long) (drop i h.starts.now)) (zip h.numbers.now h.marks.now)) ≡ let_go (state_shown h)
+  goes_is {long} {i} e f =
+      length-prefix_len (goes (modulus long) (drop i h.starts.now)) (zip h.numbers.now h.marks.now)
+      ∙ run_is (modulus long) (drop i h.starts.now) h.numbers.now h.pdcps.now h.marks.now h.pdcps_match h.marks_match
+      ∙ rw (e, f, left_out)
 
-    pub go_stops : goes_before M ss (get_or ns i 0) (is_set (get_or cs i 0)) ≡ false → run_with (goes M ss) (drop i (records_of ns ps cs)) ≡ 0
-    go_stops e = rw (from_here, e)
-
-    pub go_more : goes_before M ss (get_or ns i 0) (is_set (get_or cs i 0)) ≡ true
-        → run_with (goes M ss) (drop i (records_of ns ps cs)) ≡ suc (run_with (goes M ss) (drop (i + 1) (records_of ns ps cs)))
-    go_more e = rw (from_here, e)
+  -- no more than there are
+  pub go_within : let_go (state_shown h) ≤ length h.numbers.now
+  go_within = omega (arith, run_within (may_go (state_shown h) (drop most_ranges (state_shown h).runs)) (state_shown h).records, count_shown h)
 
   -- the highest is the last one's that goes
-  highest_is : (w : Words) (runs : List Range) (i : ℕ) → i ≤ length ns → highest_of (state_of w runs (records_of ns ps cs)) i ≡ highest_at w.reported ps i
-  highest_is w runs zero h = refl
-  highest_is w runs (suc i) h = ap (λ (r : Record). r.pdcp) (record_at_lem i ns ps cs (omega arith) (omega arith) (omega arith))
+  pub highest_is : (i : ℕ) → i ≤ length h.numbers.now → unwrap_or (slice_get (take i h.pdcps.now) (length (take i h.pdcps.now) - 1)) h.words.reported ≡ highest_of (state_shown h) i
+  highest_is zero w = refl
+  highest_is (suc i) w =
+      let count : length (take (suc i) h.pdcps.now) - 1 ≡ i = omega (arith, length-take-le (suc i) h.pdcps.now (omega (arith, h.pdcps_match))) in
+      unwrap_or-slice_get (take (suc i) h.pdcps.now) (length (take (suc i) h.pdcps.now) - 1) h.words.reported
+      ∙ rw count (get_or-take (suc i) h.pdcps.now i h.words.reported (omega arith))
+      ∙ get_or_default h.pdcps.now i h.words.reported 0 (omega (arith, h.pdcps_match))
+      ∙ sym (ap (λ (r : Record). r.pdcp) (record_shown h i (omega arith)))
 
-  -- what is counted is what the machine lets go
-  pub gone_is : (w : Words) (runs : List Range) (ss : List ℕ) (count highest : ℕ) → starts_of runs ≡ ss
-      → count ≤ length ns → run_with (goes (modulus_in w) (drop most_ranges ss)) (records_of ns ps cs) ≡ count → highest ≡ highest_at w.reported ps count
-      → record { count = count; highest = highest } ≡ gone_of (state_of w runs (records_of ns ps cs))
-  gone_is w runs ss count highest seen within all high =
-      let left : starts_of (drop most_ranges runs) ≡ drop most_ranges ss = map_drop most_ranges runs ∙ ap (drop most_ranges) seen in
-      let go : let_go (state_of w runs (records_of ns ps cs)) ≡ count =
-      ap (λ (ss : List ℕ). run_with (goes (modulus_in w) ss) (records_of ns ps cs)) left ∙ all in
-      rw (go, high, highest_is w runs count within)
-    where
-      map_drop : (i : ℕ) (rs : List Range) → starts_of (drop i rs) ≡ drop i (starts_of rs)
-      map_drop zero rs = refl
-      map_drop (suc i) [] = refl
-      map_drop (suc i) (r ∷ rs) = map_drop i rs
+  -- what is told of what goes
+  pub gone_is : (count highest : ℕ) → count ≡ let_go (state_shown h) → highest ≡ unwrap_or (slice_get (take count h.pdcps.now) (length (take count h.pdcps.now) - 1)) h.words.reported
+      → record { count = count; highest = highest } ≡ gone_of (state_shown h)
+  gone_is count highest e f = rw (f, e, highest_is (let_go (state_shown h)) go_within)

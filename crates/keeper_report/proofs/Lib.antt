@@ -1,4 +1,3 @@
-pub mod LeftOut
 pub mod Confirming
-pub mod Asking
 pub mod Letting
+pub mod Asking

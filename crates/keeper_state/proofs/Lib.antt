@@ -1,3 +1,3 @@
 pub mod Records
-pub mod Fronts
+pub mod Showing
 pub mod Opened

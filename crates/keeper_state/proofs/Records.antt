@@ -49,10 +49,6 @@ record_at_lem i (n ∷ ns) (p ∷ ps) [] hn hp hc = absurd (omega arith)
 record_at_lem zero (n ∷ ns) (p ∷ ps) (c ∷ cs) hn hp hc = refl
 record_at_lem (suc i) (n ∷ ns) (p ∷ ps) (c ∷ cs) hn hp hc = record_at_lem i ns ps cs (omega arith) (omega arith) (omega arith)
 
--- lists that are alike make the same records
-pub records_same : {ns ps cs ns' ps' cs' : List ℕ} → ns ≡ ns' → ps ≡ ps' → cs ≡ cs' → records_of ns ps cs ≡ records_of ns' ps' cs'
-records_same e f g = rw (e, f, g)
-
 -- ---- the first n records, where there are so many of all three
 
 -- their numbers are the first numbers

@@ -2,12 +2,12 @@
 -- the state; a count past the end counts as full, a length that is none of document 01's counts as 18, and an end is open by one
 -- word alone, so that words and arrays of any content are a state, and where that word doesn't stand they are a closed end.
 -- Assumes nothing.
-use Rattle.std.specs.Prelude.{◌≡◌, Bool, true, false, not, List, [], ◌∷◌, ℕ, min, eqb, length, take}
+use Rattle.std.specs.Prelude.{◌≡◌, Bool, true, false, not, List, [], ◌∷◌, ℕ, min, eqb, length, get_or, take}
 use Rattle.basics.specs.Basics.{is_set}
 use Rattle.circle.specs.Lengths.{length_in, modulus_of}
 use Rattle.frame_layout.specs.Frames.{Range, ranges_of}
 use Rattle.bearer.specs.Bearer.{most_runs, most_records}
-use Rattle.bearer.specs.Keeper.{Keeper, Record, held}
+use Rattle.bearer.specs.Keeper.{Keeper, Record}
 use Rattle.keeper_state.specs.declared.Words.{Words}
 
 -- ---- the words
@@ -108,7 +108,39 @@ pub record ListedSizes (ss es : List ℕ) : Type 0 where
   pub starts : length ss ≡ most_runs
   pub ends : length es ≡ most_runs
 
--- the records of a state are those of the first numbers of an array, as many as the words say
-pub record Fronts (w : Words) (ns : List ℕ) (k : Keeper) : Type 0 where
-  pub numbers : held k ≡ take (held_in w) ns
-  pub count : length k.records ≡ held_in w
+-- ---- the words in their array
+
+-- how many there are
+abbrev pub word_count : ℕ
+word_count = 6
+
+-- the words by name: L, base, the reported highest, open, how many runs and how many records
+abbrev pub words_in : List ℕ → Words
+words_in w = record { bits = get_or w 0 0; base = get_or w 1 0; reported = get_or w 2 0; opened = get_or w 3 0; runs = get_or w 4 0; records = get_or w 5 0 }
+
+-- and in their places
+abbrev pub words_of : Words → List ℕ
+words_of w = w.bits ∷ w.base ∷ w.reported ∷ w.opened ∷ w.runs ∷ w.records ∷ []
+
+-- ---- all that is lent
+
+-- the state in the lent arrays
+abbrev pub keeper_in : List ℕ → List ℕ → List ℕ → List ℕ → List ℕ → List ℕ → Keeper
+keeper_in ns ps cs ss es w = state_in (words_in w) ns ps cs ss es
+
+-- the lent arrays themselves, slots past a count included
+pub record Arrays : Type 0 where
+  pub numbers : List ℕ
+  pub pdcps : List ℕ
+  pub marks : List ℕ
+  pub starts : List ℕ
+  pub ends : List ℕ
+  pub words : List ℕ
+
+-- six lists as the lent arrays
+abbrev pub arrays : List ℕ → List ℕ → List ℕ → List ℕ → List ℕ → List ℕ → Arrays
+arrays ns ps cs ss es w = record { numbers = ns; pdcps = ps; marks = cs; starts = ss; ends = es; words = w }
+
+-- the state that they hold
+abbrev pub state_held : Arrays → Keeper
+state_held a = keeper_in a.numbers a.pdcps a.marks a.starts a.ends a.words

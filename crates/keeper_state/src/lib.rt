@@ -2,24 +2,28 @@
 // confirmation) and of listed runs (start, end). specs/State.antt says how they are read.
 #![tactic(auto)]
 
-ghost use Rattle.std.specs.Prelude.{◌≡◌, min, length};
-ghost use Rattle.bearer.specs.Bearer.{most_runs, most_records};
-ghost use Rattle.keeper_state.specs.State.{is_open as «is_open_of», opened_word as «opened_word_of», HeldSizes, ListedSizes};
+ghost use Rattle.std.specs.Prelude.{◌≡◌, ◌≤◌, length, take};
+ghost use Rattle.keeper_state.specs.State.{is_open as «is_open_of», opened_word as «opened_word_of», held_in, listed_in, words_in, words_of, HeldSizes, ListedSizes, arrays, keeper_in};
 
 pub const MOST_RUNS: usize = 256;
 
 pub const MOST_RECORDS: usize = 512;
 
-// The lent arrays: a number of each record, and one of each listed run.
+// How many words there are.
+const WORDS: usize = 6;
+
+// The lent arrays: a number of each record, one of each listed run, and the words.
 pub type RecordArray = [u32; MOST_RECORDS];
 
 pub type RunArray = [u32; MOST_RUNS];
+
+pub type WordArray = [u32; WORDS];
 
 // The word by which an end is open: the letters "open".
 const OPEN: u32 = 0x6f70656e;
 
 // The words: L, base, the reported highest, whether the end is open, how many runs are listed and how many records held.
-#[derive(Clone, Copy)]
+#[derive(Clone, Copy, Debug, PartialEq, Eq)]
 pub struct Words {
     pub bits: u32,
     pub base: u32,
@@ -29,11 +33,53 @@ pub struct Words {
     pub records: u32,
 }
 
-// Whether a word says that the end is open: any word but one is a closed end's, 0 among them.
-pub fn is_open(word: u32) -> bool
-    ensures { result ≡ «is_open_of» word }
-{
-    word == OPEN
+impl Words {
+    // Whether they say that the end is open: by any word but one it is closed, by 0 among them.
+    pub fn is_open(self) -> bool
+        ensures { result ≡ «is_open_of» self.opened }
+    {
+        self.opened == OPEN
+    }
+
+    // How many records are held: a count past the end counts as full.
+    pub fn held(self) -> usize
+        ensures { result ≡ held_in self }
+    {
+        MOST_RECORDS.min(self.records as usize)
+    }
+
+    // How many runs are listed: a count past the end counts as full.
+    pub fn listed(self) -> usize
+        ensures { result ≡ listed_in self }
+    {
+        MOST_RUNS.min(self.runs as usize)
+    }
+}
+
+// The words as they stand in their array.
+impl From<WordArray> for Words {
+    ghost from_gives = { λ array words. words ≡ words_in array };
+
+    fn from(array: WordArray) -> Words {
+        let [bits, base, reported, opened, runs, records] = array;
+        Words {
+            bits,
+            base,
+            reported,
+            opened,
+            runs,
+            records,
+        }
+    }
+}
+
+// And in their places.
+impl From<Words> for WordArray {
+    ghost from_gives = { λ words array. array ≡ words_of words };
+
+    fn from(w: Words) -> WordArray {
+        [w.bits, w.base, w.reported, w.opened, w.runs, w.records]
+    }
 }
 
 // The word of an end that is closed or open.
@@ -43,24 +89,86 @@ pub fn opened_word(closed: bool) -> u32
     if closed { 0 } else { OPEN }
 }
 
-// How many records are held: a count past the end counts as full.
-pub fn held_in(word: u32, numbers: &RecordArray, pdcps: &RecordArray, marks: &RecordArray) -> usize
-    ensures { (result ≡ min word most_records) × HeldSizes numbers.now pdcps.now marks.now }
-{
-    let most = basics::least(shorter(numbers, pdcps), shorter(pdcps, marks));
-    basics::least(word as usize, most)
+// The lent arrays of an end, changed in place. C lends six arrays, with the counts among the words (include/x2u.h), so they stay arrays side by side.
+#[derive(Drop)]
+pub struct State<'a> {
+    pub numbers: &'a mut RecordArray,
+    pub pdcps: &'a mut RecordArray,
+    pub marks: &'a mut RecordArray,
+    pub starts: &'a mut RunArray,
+    pub ends: &'a mut RunArray,
+    pub words: &'a mut WordArray,
 }
 
-// How many runs are listed: a count past the end counts as full.
-pub fn listed_in(word: u32, starts: &RunArray, ends: &RunArray) -> usize
-    ensures { (result ≡ min word most_runs) × ListedSizes starts.now ends.now }
-{
-    basics::least(word as usize, shorter(starts, ends))
+// What they hold, lent to be read: the words, and what is held and listed, without the slots past the counts. As in State, each array by itself.
+#[derive(Clone, Copy)]
+pub struct Held<'a> {
+    pub words: Words,
+    pub numbers: &'a [u32],
+    pub pdcps: &'a [u32],
+    pub marks: &'a [u32],
+    pub starts: &'a [u32],
+    pub ends: &'a [u32],
+    ghost pdcps_match: { length pdcps.now ≡ length numbers.now },
+    ghost marks_match: { length marks.now ≡ length numbers.now },
+    ghost ends_match: { length ends.now ≡ length starts.now },
 }
 
-// The length of the shorter of two lists.
-fn shorter(a: &[u32], b: &[u32]) -> usize
-    ensures { result ≡ min (length a.now) (length b.now) }
+impl<'a> Held<'a> {
+    ghost use Rattle.keeper_state.specs.Lent.{Shows, state_shown};
+
+    // What is held and listed in arrays that are lent to be read: a count past the end counts as full.
+    pub fn of(
+        numbers: &'a RecordArray,
+        pdcps: &'a RecordArray,
+        marks: &'a RecordArray,
+        starts: &'a RunArray,
+        ends: &'a RunArray,
+        words: &WordArray,
+    ) -> Held<'a>
+        ensures shows { Shows result (arrays numbers.now pdcps.now marks.now starts.now ends.now words.now) }
+        ensures sized { HeldSizes numbers.now pdcps.now marks.now × ListedSizes starts.now ends.now }
+        ensures state { state_shown result ≡ keeper_in numbers.now pdcps.now marks.now starts.now ends.now words.now }
+    {
+        let words = Words::from(*words);
+        let held = words.held();
+        let listed = words.listed();
+        Held {
+            words,
+            numbers: first(numbers, held),
+            pdcps: first(pdcps, held),
+            marks: first(marks, held),
+            starts: first(starts, listed),
+            ends: first(ends, listed),
+        }
+    }
+}
+
+impl State<'_> {
+    ghost use Rattle.keeper_state.specs.Lent.{arrays_of, keeper_of, Shows, state_shown};
+
+    // What they hold, lent to be read.
+    pub fn held(&self) -> Held<'_>
+        ensures shows { Shows result (arrays_of self.now) }
+        ensures sized { HeldSizes self.now.numbers.now self.now.pdcps.now self.now.marks.now × ListedSizes self.now.starts.now self.now.ends.now }
+        ensures state { state_shown result ≡ keeper_of self.now }
+    {
+        Held::of(
+            self.numbers,
+            self.pdcps,
+            self.marks,
+            self.starts,
+            self.ends,
+            self.words,
+        )
+    }
+}
+
+// The first numbers of an array, no more than there are.
+fn first<const N: usize>(numbers: &[u32; N], n: usize) -> &[u32]
+    requires { n ≤ N }
+    ensures sized { length numbers.now ≡ N }
+    ensures front { result.now ≡ take n numbers.now }
 {
-    basics::least(a.len(), b.len())
+    &numbers[..n]
 }

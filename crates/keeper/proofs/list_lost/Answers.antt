@@ -1,13 +1,52 @@
 -- `list_lost`: what is held and listed is passed on, as much as the words say. Assumes nothing.
-use Rattle.std.proofs.Common.{◌∙◌, ap, arith}
-use Rattle.circle.specs.Lengths.{modulus}
-use Rattle.bearer.specs.Bearer.{most_records}
-use Rattle.keeper.proofs.Parts.{take_most}
-use Rattle.keeper.proofs.Listing.{lists_of}
+use Rattle.std.proofs.Common.{◌≡◌, refl, sym, ◌∙◌, ap, arith, ℕ, take, min}
+use Rattle.bearer.specs.Keeper.{held, runs_after, ◌with_runs◌}
+use Rattle.frame_layout.specs.Frames.{ranges_of}
+use Rattle.bearer.specs.Bearer.{most_runs}
+use Rattle.circle.specs.Lengths.{modulus_of}
+use Rattle.bearer.specs.Losses.{above_base}
+use Rattle.keeper_state.specs.declared.State.{State}
+use Rattle.keeper_state.specs.Lent.{keeper_of}
+use Rattle.keeper_loss.proofs.Bounds.{gaps_none}
+use Rattle.keeper_state.proofs.Showing.{numbers_shown}
+use Rattle.keeper.proofs.Becoming.{runs_become, runs_plain}
 use Rattle.keeper.proofs.list_lost.Goals as goal
+use Rattle.keeper.proofs.list_lost.Goals.{After-listed}
+
+-- the numbers are those held
+numbers : (c : After-listed) → c.front-numbers.result.now ≡ held (keeper_of c.args.state.now)
+numbers c =
+    c.front-numbers.ensures
+    ∙ ap (λ (n : ℕ). take n c.args.state.now.numbers.now) c.held-2.ensures
+    ∙ sym c.held.ensures.shows.numbers
+    ∙ sym (numbers_shown c.held.result)
+    ∙ ap held c.held.ensures.state
+
+-- below the distance 0 nothing is lost
+none : (s : State) → keeper_of s ≡ (keeper_of s with_runs runs_after (keeper_of s) 0)
+none s =
+    let k = keeper_of s in
+    rw (gaps_none 0 0 (above_base (modulus_of k.bits) k.base (held k)) (omega arith))
+
+pub returns-then-lost-eq0 : goal.returns-then-lost-eq0
+returns-then-lost-eq0 c = record { loans = (refl, refl, refl, refl, refl, refl); state = rw c.if-lost-eq0.true (none c.args.state.now); plain = λ p. p }
 
 pub list_runs-requires : goal.list_runs-requires
 list_runs-requires c =
-    let a = c.args in
-    let numbers = c.front_words-held.ensures ∙ take_most a.w.records most_records a.numbers.now (omega arith) in
-    lists_of a.w.base (ap modulus c.is_long.ensures) numbers c.listed_in-listed.ensures a.starts.now a.ends.now c.requires.0 (omega arith) (omega arith) (omega (arith, c.requires.1))
+    let n = numbers (goal.at.list_runs-requires c).After-listed in
+    let w = c.held.ensures.shows.words in
+    (rw (c.from.ensures, n, c.listed.ensures, w) c.requires.losing, omega (arith, c.listed.ensures), c.requires.few)
+
+pub returns : goal.returns
+returns c =
+    let s = c.args.state.now in
+    let n = numbers (goal.at.returns c).After-listed in
+    let w = c.held.ensures.shows.words in
+    let few : min c.args.lost.runs most_runs ≡ c.args.lost.runs = omega (arith, c.requires.few) in
+    let runs : take (min c.args.lost.runs most_runs) (ranges_of c.list_runs.new.starts c.list_runs.new.ends) ≡ runs_after (keeper_of s) c.args.lost.limit =
+    rw few (c.list_runs.ensures ∙ rw (c.from.ensures, n, c.listed.ensures, w)) in
+    record {
+      loans = (refl, refl, refl, refl, refl, refl);
+      state = rw c.into-state.ensures (runs_become w s.numbers.now s.pdcps.now s.marks.now s.starts.now s.ends.now _ _ c.args.lost.runs _ runs);
+      plain = λ p. rw c.into-state.ensures (runs_plain w s.marks.now c.args.lost.runs c.requires.few p);
+    }

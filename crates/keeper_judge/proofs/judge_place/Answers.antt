@@ -1,126 +1,107 @@
 -- `judge_place`: the tests are the machine's, in its order; what an accepted arrival changes is what the machine changes. Assumes nothing.
-use Rattle.std.proofs.Common.{◌≡◌, List, ℕ, false, ◌/◌, ◌≤◌, length, refl, sym, ◌∙◌, ap, arith}
+use Rattle.std.proofs.Common.{◌≡◌, false, ◌+◌, ◌<◌, refl, sym, ◌∙◌, arith}
+use Rattle.std.proofs.lemmas.Result.{err_from_is_err_and}
+use Rattle.circle.specs.Lengths.{modulus, modulus_of, half}
 use Rattle.circle.specs.Circle.{forward}
-use Rattle.circle.specs.Lengths.{modulus}
 use Rattle.circle.proofs.Forms.{modulus_bounds, distance_below}
-use Rattle.frame_layout.specs.Frames.{Range, ranges_of, ends_of}
-use Rattle.frame_layout.proofs.Ranges.{ends_own}
-use Rattle.bearer.specs.Losses.{ahead_of, place_in, bears_before, floor_behind}
-use Rattle.bearer.specs.Keeper.{limit_of, base_arrived}
+use Rattle.bearer.specs.Losses.{ahead_of}
+use Rattle.bearer.specs.Keeper.{place_of, has_record, floor, limit_of}
 use Rattle.bearer.proofs.Lists.Mapped.{front_within}
-use Rattle.keeper_state.specs.State.{modulus_in}
-use Rattle.keeper_judge.specs.Judgements.{Losing, Reaches}
-use Rattle.keeper_judge.proofs.Arriving.{again, span, many_runs, many_records, accepted}
+use Rattle.keeper_state.specs.Lent.{state_shown}
+use Rattle.keeper_state.proofs.Showing.{count_shown}
+use Rattle.keeper_judge.proofs.Arriving.{again, span, many_runs, many_records, accepted, place_shown, far_shown, bears_shown, floor_shown, half_shown, arrived_shown, reaches_shown}
 use Rattle.keeper_judge.proofs.judge_place.Goals as goal
-use Rattle.keeper_judge.proofs.judge_place.Goals.{After-front-place, After-floor, After-lost_below-lost}
+use Rattle.keeper_judge.proofs.judge_place.Goals.{After-has_record, After-half, After-saturating_sub}
 
 -- ---- what is known there
 
--- M is that of the words
-modulus_is : (c : After-front-place) → modulus c.is_long-long.result ≡ modulus_in c.args.w
-modulus_is c = ap modulus c.is_long-long.ensures
-
 -- the place is the machine's
-place_is : (c : After-front-place) → let a = c.args in c.front-place.result ≡ place_in (modulus_in a.w) a.numbers.now a.number
-place_is c =
-    let a = c.args in
-    c.front-place.ensures ∙ ap (λ (M : ℕ). place_in M a.numbers.now a.number) (modulus_is c)
-
-place_within : (c : After-front-place) → c.front-place.result ≤ length c.args.numbers.now
-place_within c =
-    let a = c.args in
-    omega (arith, place_is c, front_within (ahead_of (modulus_in a.w) a.number) a.numbers.now)
-
--- the number is not held
-new : (c : After-floor) → let a = c.args in bears_before a.numbers.now a.number c.front-place.result ≡ false
-new c = sym c.has_record.ensures ∙ c.if-has_record.false
+place_is : (c : After-has_record) → c.place-place.result ≡ place_of (state_shown c.args.held.now) c.args.number
+place_is c = c.place-place.ensures ∙ place_shown c.args.held.now c.from-base.result c.from-base.ensures c.args.number
 
 -- how far the number is forward from base
-far : (c : After-floor) → let a = c.args in c.distance-distance.result ≡ forward (modulus_in a.w) a.w.base a.number
-far c =
-    let a = c.args in
-    c.distance-distance.ensures ∙ ap (λ (M : ℕ). forward M a.w.base a.number) (ap modulus c.is_long-long.ensures)
+far : (c : After-half) → let k = state_shown c.args.held.now in c.distance-distance.result ≡ forward (modulus_of k.bits) k.base c.args.number
+far c = c.distance-distance.ensures ∙ far_shown c.args.held.now c.from-base.result c.from-base.ensures c.args.number
+
+-- the number is not held
+new : (c : After-half) → has_record (state_shown c.args.held.now) c.args.number c.place-place.result ≡ false
+new c = sym (c.has_record.ensures ∙ bears_shown c.args.held.now c.from-base.result c.from-base.ensures c.args.number c.place-place.result) ∙ c.if-has_record.false
 
 -- half the circle, and the floor
-half_is : (c : After-floor) → c.half.result ≡ modulus_in c.args.w / 2
-half_is c = c.half.ensures ∙ ap (λ (M : ℕ). M / 2) (ap modulus c.is_long-long.ensures)
+half_is : (c : After-half) → c.half.result ≡ half (state_shown c.args.held.now).bits
+half_is c = c.half.ensures ∙ half_shown c.args.held.now c.from-base.result c.from-base.ensures
 
-floor_is : (c : After-floor) → let a = c.args in c.floor.result ≡ floor_behind (modulus_in a.w) a.w.base a.starts.now a.numbers.now
-floor_is c =
-    let a = c.args in
-    c.floor.ensures ∙ ap (λ (M : ℕ). floor_behind M a.w.base a.starts.now a.numbers.now) (ap modulus c.is_long-long.ensures)
+floor_is : (c : After-half) → c.max-floor.result ≡ floor (state_shown c.args.held.now)
+floor_is c = c.max-floor.ensures ∙ rw (c.first_behind.ensures, c.first_behind-2.ensures) (floor_shown c.args.held.now c.from-base.result c.from-base.ensures)
 
--- what is lost
-losing : (c : After-lost_below-lost) (runs : List Range) → let a = c.args in ends_of runs ≡ a.ends.now → Losing c.lost_below-lost.result (modulus_in a.w) a.w.base a.numbers.now runs
-losing c runs seen =
-    let M : modulus c.is_long-long.result ≡ modulus_in c.args.w = ap modulus c.is_long-long.ensures in
-    rw M at (c.lost_below-lost.ensures.1 runs seen)
+-- the limit is the machine's
+limit_is : (c : After-saturating_sub) → c.saturating_sub.result ≡ limit_of c.distance-distance.result
+limit_is c = omega (arith, c.saturating_sub.ensures)
 
-limit_is : (c : After-lost_below-lost) → c.lost_below-lost.result.limit ≡ limit_of c.distance-distance.result
-limit_is c = c.lost_below-lost.ensures.0 ∙ c.limit_of.ensures
-
--- what is lost reaches from base on, whatever is listed
-reaches : (c : After-lost_below-lost) → Reaches c.lost_below-lost.result (modulus c.is_long-long.result) c.args.w.base c.args.numbers.now
-reaches c = let es = c.args.ends.now in (c.lost_below-lost.ensures.1 (ranges_of es es) (ends_own es)).reaches
+-- it lies within the span
+near : (c : After-half) → c.max-floor.result + c.distance-distance.result < c.half.result → let k = state_shown c.args.held.now in floor k + c.distance-distance.result < half k.bits
+near c h = omega (arith, half_is c, floor_is c, h)
 
 -- ---- the goals
 
 pub has_record-requires : goal.has_record-requires
-has_record-requires c = place_within (goal.at.has_record-requires c).After-front-place
+has_record-requires c =
+    let b = c.from-base.result in
+    omega (arith, c.place-place.ensures, front_within (ahead_of (modulus b.long) c.args.number) c.args.held.now.numbers.now)
 
 pub returns-then-has_record : goal.returns-then-has_record
 returns-then-has_record c =
-    let k = (goal.at.returns-then-has_record c).After-front-place in
-    let a = c.args in
-    λ runs records seen starts ends pdcp.
-    again a.w runs records a.numbers.now a.starts.now seen starts a.number pdcp _ c.front-place.result (place_is k) refl (sym c.has_record.ensures ∙ c.if-has_record.true)
+    let h = c.args.held.now in
+    let k = (goal.at.returns-then-has_record c).After-has_record in
+    λ pdcp.
+    again (state_shown h) c.args.number pdcp _ c.place-place.result (place_is k) refl
+    (sym (c.has_record.ensures ∙ bears_shown h c.from-base.result c.from-base.ensures c.args.number c.place-place.result) ∙ c.if-has_record.true)
 
 pub returns-then-half-floor : goal.returns-then-half-floor
 returns-then-half-floor c =
-    let at = (goal.at.returns-then-half-floor c).After-front-place in
-    let k = (goal.at.returns-then-half-floor c).After-floor in
-    let a = c.args in
-    λ runs records seen starts ends pdcp.
-    span a.w runs records a.numbers.now a.starts.now seen starts a.number pdcp c.distance-distance.result c.front-place.result (place_is at) (far k) (new k)
-    (omega (arith, floor_is k, half_is k, c.if-half-floor.true))
+    let h = c.args.held.now in
+    let p = (goal.at.returns-then-half-floor c).After-has_record in
+    let k = (goal.at.returns-then-half-floor c).After-half in
+    λ pdcp. span (state_shown h) c.args.number pdcp c.distance-distance.result c.place-place.result (place_is p) (far k) (new k) (omega (arith, half_is k, floor_is k, c.if-half-floor.true))
 
-pub returns-then-lost-gt-MOST_RUNS : goal.returns-then-lost-gt-MOST_RUNS
-returns-then-lost-gt-MOST_RUNS c =
-    let at = (goal.at.returns-then-lost-gt-MOST_RUNS c).After-front-place in
-    let k = (goal.at.returns-then-lost-gt-MOST_RUNS c).After-floor in
-    let l = (goal.at.returns-then-lost-gt-MOST_RUNS c).After-lost_below-lost in
-    let a = c.args in
-    λ runs records seen starts ends pdcp.
-    many_runs a.w runs records a.numbers.now a.starts.now seen starts a.number pdcp c.distance-distance.result c.front-place.result (place_is at) (far k) (new k)
-    (omega (arith, floor_is k, half_is k, c.if-half-floor.false)) c.lost_below-lost.result (losing l runs ends) (limit_is l) c.if-lost-gt-MOST_RUNS.true
+pub returns-in_err-lost : goal.returns-in_err-lost
+returns-in_err-lost c =
+    let h = state_shown c.args.held.now in
+    let p = (goal.at.returns-in_err-lost c).After-has_record in
+    let k = (goal.at.returns-in_err-lost c).After-half in
+    let l = (goal.at.returns-in_err-lost c).After-saturating_sub in
+    let err = err_from_is_err_and c.from_residual.result c.from_residual.ensures.1 in
+    λ pdcp.
+    rw (err.1, err.2, c.in_err-lost.ensures.0)
+    (many_runs h c.args.number pdcp c.distance-distance.result c.place-place.result (place_is p) (far k) (new k) (near k c.if-half-floor.false) (rw (limit_is l) at c.in_err-lost.ensures.1))
 
-pub returns-then-numbers-ge-MOST_RECORDS : goal.returns-then-numbers-ge-MOST_RECORDS
-returns-then-numbers-ge-MOST_RECORDS c =
-    let at = (goal.at.returns-then-numbers-ge-MOST_RECORDS c).After-front-place in
-    let k = (goal.at.returns-then-numbers-ge-MOST_RECORDS c).After-floor in
-    let l = (goal.at.returns-then-numbers-ge-MOST_RECORDS c).After-lost_below-lost in
-    let a = c.args in
-    λ runs records seen starts ends pdcp.
-    many_records a.w runs records a.numbers.now a.starts.now seen starts a.number pdcp c.distance-distance.result c.front-place.result (place_is at) (far k) (new k)
-    (omega (arith, floor_is k, half_is k, c.if-half-floor.false)) c.lost_below-lost.result (losing l runs ends) (limit_is l) c.if-lost-gt-MOST_RUNS.false
-    c.if-numbers-ge-MOST_RECORDS.true
+pub returns-then-held-ge-MOST_RECORDS : goal.returns-then-held-ge-MOST_RECORDS
+returns-then-held-ge-MOST_RECORDS c =
+    let h = state_shown c.args.held.now in
+    let p = (goal.at.returns-then-held-ge-MOST_RECORDS c).After-has_record in
+    let k = (goal.at.returns-then-held-ge-MOST_RECORDS c).After-half in
+    let l = (goal.at.returns-then-held-ge-MOST_RECORDS c).After-saturating_sub in
+    λ pdcp.
+    many_records h c.args.number pdcp c.distance-distance.result c.place-place.result (place_is p) (far k) (new k) (near k c.if-half-floor.false)
+    c.in_ok-lost.lost (c.in_ok-lost.ensures.0 ∙ limit_is l) c.in_ok-lost.ensures.1 (omega (arith, count_shown c.args.held.now, c.if-held-ge-MOST_RECORDS.true))
 
 pub arrived_base-base-requires : goal.arrived_base-base-requires
 arrived_base-base-requires c =
-    let at = (goal.at.arrived_base-base-requires c).After-front-place in
-    let l = (goal.at.arrived_base-base-requires c).After-lost_below-lost in
-    let a = c.args in
-    let long = c.is_long-long.result in
-    (place_within at, omega (arith, c.distance-distance.ensures, modulus_bounds long, distance_below long a.w.base a.number), limit_is l, reaches l)
+    let l = (goal.at.arrived_base-base-requires c).After-saturating_sub in
+    let b = c.from-base.result in (
+      omega (arith, c.place-place.ensures, front_within (ahead_of (modulus b.long) c.args.number) c.args.held.now.numbers.now),
+      omega (arith, c.distance-distance.ensures, modulus_bounds b.long, distance_below b.long b.at c.args.number),
+      c.in_ok-lost.ensures.0 ∙ limit_is l,
+      reaches_shown c.args.held.now b c.from-base.ensures c.in_ok-lost.lost c.in_ok-lost.ensures.1,
+    )
 
 pub returns : goal.returns
 returns c =
-    let at = (goal.at.returns c).After-front-place in
-    let k = (goal.at.returns c).After-floor in
-    let l = (goal.at.returns c).After-lost_below-lost in
-    let a = c.args in
-    let base = c.arrived_base-base.ensures ∙ ap (λ (M : ℕ). base_arrived M a.w.base a.numbers.now c.front-place.result c.distance-distance.result) (modulus_is at) in
-    λ runs records seen starts ends pdcp.
-    accepted a.w runs records a.numbers.now a.starts.now seen starts a.number pdcp c.distance-distance.result c.front-place.result (place_is at) (far k) (new k)
-    (omega (arith, floor_is k, half_is k, c.if-half-floor.false)) c.lost_below-lost.result (losing l runs ends) (limit_is l) c.if-lost-gt-MOST_RUNS.false
-    c.if-numbers-ge-MOST_RECORDS.false c.arrived_base-base.result base
+    let h = state_shown c.args.held.now in
+    let p = (goal.at.returns c).After-has_record in
+    let k = (goal.at.returns c).After-half in
+    let l = (goal.at.returns c).After-saturating_sub in
+    λ pdcp.
+    accepted h c.args.number pdcp c.distance-distance.result c.place-place.result (place_is p) (far k) (new k) (near k c.if-half-floor.false)
+    c.in_ok-lost.lost (c.in_ok-lost.ensures.0 ∙ limit_is l) c.in_ok-lost.ensures.1 (omega (arith, count_shown c.args.held.now, c.if-held-ge-MOST_RECORDS.false))
+    c.arrived_base-base.result (c.arrived_base-base.ensures ∙ arrived_shown c.args.held.now c.from-base.result c.from-base.ensures c.place-place.result c.distance-distance.result)

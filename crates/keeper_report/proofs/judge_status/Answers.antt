@@ -1,48 +1,44 @@
 -- `judge_status`: the tests are the machine's, in its order; what goes is what the machine lets go. Assumes nothing.
-use Rattle.std.proofs.Common.{◌≡◌, List, ℕ, true, length, sym, ◌∙◌, ap}
+use Rattle.std.proofs.Common.{◌≡◌, true, false, not, length, sym, ◌∙◌, ap, arith}
+use Rattle.std.proofs.lemmas.List.{length-take-le}
 use Rattle.std.proofs.Math.Dec.{ltb}
+use borrow.Author.Tests.{lt-ltb, le-ltb}
 use Rattle.basics.specs.Basics.{◌and◌}
+use Rattle.basics.proofs.Parts.{rest_part}
 use Rattle.frame_layout.specs.Frames.{most_ranges}
-use Rattle.bearer.specs.Keeper.{Record}
-use Rattle.keeper_state.specs.State.{is_open, state_of, state_in}
-use Rattle.keeper_state.proofs.Fronts.{records_are, starts_are, count_is}
-use Rattle.keeper_state.proofs.Records.{records_same}
-use Rattle.keeper_report.specs.Reports.{gone_of}
-use Rattle.keeper_report.proofs.Letting.{left_out_lem, written}
+use Rattle.bearer.specs.Keeper.{let_go}
+use Rattle.keeper_state.specs.Lent.{state_shown}
+use Rattle.keeper_state.proofs.Showing.{runs_shown}
+use Rattle.keeper_report.proofs.Letting.{too_early, written, goes_is, go_within, gone_is}
 use Rattle.keeper_report.proofs.judge_status.Goals as goal
-use Rattle.keeper_report.proofs.judge_status.Goals.{After-leaves_out}
+use Rattle.keeper_report.proofs.judge_status.Goals.{After-going-count, else-last-via-then-last+else-held-gt-MOST_RANGES, else-last-via-else-last}
 
--- the end is open
-opened : (c : After-leaves_out) → is_open c.args.w.opened ≡ true
-opened c = sym c.is_open.ensures ∙ c.if-not-is_open.false
+-- as many go as the machine lets go
+count : (c : After-going-count) → c.going-count.result ≡ let_go (state_shown c.args.held.now)
+count c = c.going-count.ensures ∙ rw (rest_part c.args.held.now.starts.now c.min.result) (goes_is c.args.held.now c.is_long-long.ensures c.min.ensures)
 
--- whether a last status would leave out runs
-leaves : (c : After-leaves_out) → let a = c.args in
-    let k = state_in a.w a.numbers.now a.pdcps.now a.marks.now a.starts.now a.ends.now in
-    a.last and ltb most_ranges (length k.runs) ≡ c.leaves_out.result
-leaves c =
-    let a = c.args in
-    let l = c.listed_in-listed in
-    ap (λ (n : ℕ). a.last and ltb most_ranges n) (count_is a.w l.ensures.1 l.result l.ensures.0) ∙ sym c.leaves_out.ensures
+pub returns-then-held-gt-MOST_RANGES : goal.returns-then-held-gt-MOST_RANGES
+returns-then-held-gt-MOST_RANGES c =
+    let h = c.args.held.now in
+    let early : c.args.last and ltb most_ranges (length (state_shown h).runs) ≡ true = rw (c.if-last.true, runs_shown h) (lt-ltb most_ranges (length h.starts.now) c.if-held-gt-MOST_RANGES.true) in
+    λ desired minimum d. too_early (state_shown h) (ap not (sym c.is_open.ensures ∙ c.if-not-is_open.false)) c.args.last desired minimum d early
 
-pub returns-then-leaves_out : goal.returns-then-leaves_out
-returns-then-leaves_out c =
-    let a = c.args in
-    let k = state_in a.w a.numbers.now a.pdcps.now a.marks.now a.starts.now a.ends.now in
-    let t = (goal.at.returns-then-leaves_out c).After-leaves_out in
-    λ desired minimum d. left_out_lem a.w k.runs k.records a.last desired minimum d (opened t) (leaves t ∙ c.if-leaves_out.true)
+pub slice_bounds-last-end : goal.slice_bounds-last-end
+slice_bounds-last-end c =
+    let h = c.args.held.now in
+    let k = (goal.at.slice_bounds-last-end c).After-going-count in
+    sym (length-take-le c.going-count.result h.pdcps.now (omega (arith, count k, go_within h, h.pdcps_match)))
 
 pub returns : goal.returns
 returns c =
-    let a = c.args in
-    let k = state_in a.w a.numbers.now a.pdcps.now a.marks.now a.starts.now a.ends.now in
-    let t = (goal.at.returns c).After-leaves_out in
-    let h = c.held_in-held in
-    let l = c.listed_in-listed in
-    let seen = starts_are a.w l.ensures.1 l.result l.ensures.0 ∙ sym c.front_words-4.ensures in
-    let records =
-    records_same c.front_words.ensures c.front_words-2.ensures c.front_words-3.ensures ∙ sym (records_are a.w h.ensures.1 h.result h.ensures.0) in
+    let h = c.args.held.now in
+    let k = (goal.at.returns c).After-going-count in
+    let early : c.args.last and ltb most_ranges (length (state_shown h).runs) ≡ false =
+    elim c.else-last.branch [
+      | else-last-via-then-last+else-held-gt-MOST_RANGES w ↦ rw (w.if-last.true, runs_shown h) (le-ltb most_ranges (length h.starts.now) w.if-held-gt-MOST_RANGES.false)
+      | else-last-via-else-last w ↦ rw w.if-last.false
+    ] in
     record {
-      gone_is = c.let_go-gone.ensures k.runs seen ∙ ap (λ (rs : List Record). gone_of (state_of a.w k.runs rs)) records;
-      outcome = λ desired minimum d. written a.w k.runs k.records a.last desired minimum d (opened t) (leaves t ∙ c.if-leaves_out.false);
+      gone_is = gone_is h c.going-count.result c.unwrap_or-highest.result (count k) (c.unwrap_or-highest.ensures ∙ rw (c.copied.ensures, c.last.ensures.value));
+      outcome = λ desired minimum d. written (state_shown h) (ap not (sym c.is_open.ensures ∙ c.if-not-is_open.false)) c.args.last desired minimum d early;
     }
