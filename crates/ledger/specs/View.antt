@@ -2,16 +2,16 @@
 -- document 01's words. How its entries are read is said in ledger_entries (View.antt); a length that is none of document 01's counts as
 -- 18, so that a struct of any content is a state.
 -- Assumes nothing.
-use Rattle.std.specs.Prelude.{true, ℕ}
+use Rattle.std.specs.Prelude.{true, ℕ, Result}
 use Rattle.basics.specs.Basics.{Outcome, done, refused}
 use Rattle.circle.specs.Lengths.{length_in}
 use Rattle.bearer.specs.Bearer.{After}
 use Rattle.bearer.specs.Ledger as machine
-use Rattle.ledger_entries.specs.View.{held_in}
+use Rattle.refusal.specs.declared.Refusal.{Refusal}
+use Rattle.refusal.specs.Numbers.{answer_of}
+use Rattle.ledger_entries.specs.View.{entries_of}
 pub use Rattle.ledger_entries.specs.View.{fate_in, entry_in, entries_in}
 use Rattle.ledger.specs.declared.Ledger as L
-use Rattle.ledger.specs.declared.Opened as O
-use Rattle.ledger.specs.declared.Sent as S
 use Rattle.ledger.specs.declared.Accepted as A
 use Rattle.ledger.specs.declared.Taken as T
 
@@ -29,30 +29,30 @@ ledger_in l = record {
   minimum = l.minimum;
   octets = l.octets;
   oldest = l.oldest;
-  entries = held_in l.entries l.count;
+  entries = entries_of l.entries;
 }
 
 -- ---- what the answers mean
 
--- an open answers nothing but that it was done
-abbrev pub opened_as : O.Opened → Outcome Unit
-opened_as O.TheVariants.Done = done tt
-opened_as (O.TheVariants.Refused n) = refused n
+-- an open answers the fresh end
+abbrev pub opened_as : Result L.Ledger Refusal → Outcome (machine.Ledger Unit)
+opened_as r = answer_of ledger_in r
+
+-- judging a send answers nothing but that nothing stands against it
+abbrev pub judged_as : Result Unit Refusal → Outcome Unit
+judged_as r = answer_of (λ u. u) r
 
 -- a send answers the X2-U number given out
-abbrev pub sent_as : S.Sent → Outcome ℕ
-sent_as (S.TheVariants.Number n) = done n
-sent_as (S.TheVariants.Refused n) = refused n
+abbrev pub sent_as : Result ℕ Refusal → Outcome ℕ
+sent_as r = answer_of (λ n. n) r
 
 -- accepting a status answers how many were freed, how many became lost, and Final
-abbrev pub accepted_as : A.Accepted → Outcome machine.Accepted
-accepted_as (A.TheVariants.Counts freed lost last) = done (record { freed = freed; lost = lost; final = last })
-accepted_as (A.TheVariants.Refused n) = refused n
+abbrev pub accepted_as : Result A.Accepted Refusal → Outcome machine.Accepted
+accepted_as r = answer_of (λ a. record { freed = a.freed; lost = a.lost; final = a.last }) r
 
 -- a take answers the two numbers and the size of what was taken
-abbrev pub taken_as : T.Taken → Outcome machine.Taken
-taken_as (T.TheVariants.Packet number pdcp size) = done (record { number = number; pdcp = pdcp; size = size })
-taken_as (T.TheVariants.Refused n) = refused n
+abbrev pub taken_as : Result T.Taken Refusal → Outcome machine.Taken
+taken_as r = answer_of (λ t. record { number = t.number; pdcp = t.pdcp; size = t.size }) r
 
 -- an answer beside the state after the call
 abbrev pub beside : {A : Type 0} → Outcome A → machine.Ledger Unit → After (machine.Ledger Unit) A

@@ -1,19 +1,19 @@
-// The master's ledger (MeNB end): open, send, accepting a status, take, room. The state is a struct by value; its entries stand
-// in sending order from slot 0 on (the crate ledger_entries). specs/View.antt says how a state and the answers are read.
+// The master's ledger (MeNB end): open, send, accepting a status, take, room. A ledger is changed in place; its entries stand in
+// sending order (the crate ledger_entries). specs/View.antt says how a state and the answers are read.
 #![tactic(auto)]
 
-ghost use Rattle.std.specs.Prelude.{◌≡◌, ◌≤◌};
-ghost use Rattle.basics.specs.Basics.{refused, alike};
+ghost use Rattle.std.specs.Prelude.{◌≡◌, true};
+ghost use Rattle.basics.specs.Basics.{◌and◌};
 ghost use Rattle.circle.specs.Lengths.{is_long, length_in};
-ghost use Rattle.bearer.specs.Bearer.{most_size};
-ghost use Rattle.bearer.specs.Ledger.{fresh as «fresh_of», open_ledger, is_size as «is_size_of», send as «send_of», accept as «accept_of», take_oldest, mark_lost, accept_status as «accept_status_of», accept_marked, raised, kept_room};
-ghost use Rattle.frame_reader.specs.Answers.{cursor_of, Held};
-ghost use Rattle.ledger.specs.View.{ledger_in, opened_as, sent_as, accepted_as, taken_as, beside, opens};
-ghost use Rattle.ledger.specs.Steps.{follows_from, status_in};
+ghost use Rattle.bearer.specs.Ledger.{fresh as «fresh_of», open_ledger, is_size as «is_size_of», is_in_order as «is_in_order_of», past_last, is_within_half, send as «send_of», accept as «accept_of», take_oldest, marking, accept_status as «accept_status_of», accept_marked, raised, kept_room};
+ghost use Rattle.frame_reader.specs.Answers.{cursor_of, head_status, Held};
+ghost use Rattle.ledger.specs.View.{ledger_in, opened_as, judged_as, sent_as, accepted_as, taken_as, beside};
+ghost use Rattle.ledger.specs.Steps.{judged};
 
 use frame_reader::{Frame, Head};
-use ledger_entries::MOST_ENTRIES;
+use ledger_entries::Entries;
 pub use ledger_entries::{Entry, Fate};
+use refusal::Refusal;
 
 // How many octets a PDU has at most (refusal 39).
 const MOST_SIZE: u32 = 16384;
@@ -21,13 +21,12 @@ const MOST_SIZE: u32 = 16384;
 // How many the entries have together at most: 512 such PDUs.
 const MOST_OCTETS: u32 = 8388608;
 
-// The master's end: the entries and how many they are, L, the next X2-U number, the highest last accepted, the last PDCP
-// number sent, whether it is closed, both sizes of the last status, the sizes of all waiting entries added up, and where the
-// oldest waiting entry stands (behind all where none waits).
+// The master's end: the entries, L, the next X2-U number, the highest last accepted, the last PDCP number sent, whether it is
+// closed, both sizes of the last status, the sizes of all waiting entries added up, and where the oldest waiting entry stands
+// (behind all where none waits: a number and no Option, since the machine has one, and any number is a state).
 #[derive(Clone, Copy)]
 pub struct Ledger {
-    pub entries: [Entry; MOST_ENTRIES],
-    pub count: usize,
+    pub entries: Entries,
     pub bits: u32,
     pub next: u32,
     pub highest: u32,
@@ -39,110 +38,20 @@ pub struct Ledger {
     pub oldest: usize,
 }
 
-// What an open answers.
-#[derive(Drop)]
-pub enum Opened {
-    Done,
-    Refused(u32),
-}
-
-// What a send answers: the X2-U number given out.
-#[derive(Drop)]
-pub enum Sent {
-    Number(u32),
-    Refused(u32),
-}
-
 // What accepting a status answers: how many were freed, how many became lost, and Final.
-#[derive(Drop)]
-pub enum Accepted {
-    Counts { freed: u32, lost: u32, last: bool },
-    Refused(u32),
+#[derive(Clone, Copy, Debug, PartialEq, Eq)]
+pub struct Accepted {
+    pub freed: u32,
+    pub lost: u32,
+    pub last: bool,
 }
 
 // What a take answers: the two numbers and the size of what was taken.
-#[derive(Drop)]
-pub enum Taken {
-    Packet { number: u32, pdcp: u32, size: u32 },
-    Refused(u32),
-}
-
-// An answer beside the ledger after the call.
-#[derive(Drop)]
-pub struct Opening {
-    pub answer: Opened,
-    pub ledger: Ledger,
-}
-
-#[derive(Drop)]
-pub struct Sending {
-    pub answer: Sent,
-    pub ledger: Ledger,
-}
-
-#[derive(Drop)]
-pub struct Accepting {
-    pub answer: Accepted,
-    pub ledger: Ledger,
-}
-
-#[derive(Drop)]
-pub struct Taking {
-    pub answer: Taken,
-    pub ledger: Ledger,
-}
-
-// ---- open
-
-// An end with no entries.
-fn fresh(bits: u32, next: u32, highest: u32, closed: bool) -> Ledger
-    ensures { ledger_in result ≡ «fresh_of» (length_in bits) next highest closed }
-{
-    let none = ledger_entries::new_entry(0, 0, 0);
-    Ledger {
-        entries: [none; MOST_ENTRIES],
-        count: 0,
-        bits: bits,
-        next: next,
-        highest: highest,
-        sent: highest,
-        closed: closed,
-        desired: 0,
-        minimum: 0,
-        octets: 0,
-        oldest: 0,
-    }
-}
-
-// A refused open: what stands beside the refusal is an end that is closed and empty.
-fn not_opened(refusal: u32) -> Opening
-    ensures { beside (opened_as result.answer) (ledger_in result.ledger) ≡ opens (refused refusal) }
-{
-    Opening {
-        answer: Opened::Refused(refusal),
-        ledger: fresh(18, 0, 0, true),
-    }
-}
-
-// Open: 7, 10, or a fresh end.
-pub fn open(bits: u32, first: u32, pdcp: u32) -> Opening
-    ensures { beside (opened_as result.answer) (ledger_in result.ledger) ≡ opens (open_ledger bits first pdcp) }
-{
-    if !circle::is_length(bits) {
-        return not_opened(refusal::PDCP_LENGTH);
-    }
-    if circle::modulus(circle::is_long(bits)) <= first {
-        return not_opened(refusal::NUMBER);
-    }
-    let most = circle::pdcps(bits);
-    if most <= pdcp {
-        return not_opened(refusal::NUMBER);
-    }
-    let before = (pdcp + (most - 1)) % most;
-    Opening {
-        answer: Opened::Done,
-        ledger: fresh(bits, first, before, false),
-    }
+#[derive(Clone, Copy, Debug, PartialEq, Eq)]
+pub struct Taken {
+    pub number: u32,
+    pub pdcp: u32,
+    pub size: u32,
 }
 
 // ---- send
@@ -151,220 +60,203 @@ pub fn open(bits: u32, first: u32, pdcp: u32) -> Opening
 fn is_size(size: u32) -> bool
     ensures { result ≡ «is_size_of» size }
 {
-    if size < 1 {
-        return false;
-    }
-    size <= MOST_SIZE
+    (1..=MOST_SIZE).contains(&size)
 }
 
 // A sum of waiting sizes with one more. It stops at the most that entries have together, so that it can't overflow, whatever the sum was.
 fn raise(octets: u32, size: u32) -> u32
-    requires { size ≤ most_size }
     ensures { result ≡ raised octets size }
 {
-    if MOST_OCTETS - size <= octets {
-        return MOST_OCTETS;
-    }
-    octets + size
+    octets.saturating_add(size).min(MOST_OCTETS)
 }
 
-// Whether a PDCP number follows, seen from that of the oldest waiting entry: past the last sent, and less than half the PDCP
-// numbers past the oldest.
-fn follows(bits: u32, oldest: u32, sent: u32, pdcp: u32) -> bool
-    ensures { result ≡ follows_from (length_in bits) oldest sent pdcp }
-{
-    let length = circle::length_in(bits);
-    let to_sent = circle::forward(oldest, sent, length);
-    let to_pdcp = circle::forward(oldest, pdcp, length);
-    if to_pdcp <= to_sent {
-        return false;
-    }
-    to_pdcp < circle::pdcps(bits) / 2
-}
+impl Ledger {
+    // ---- open
 
-// A refused send leaves the ledger.
-fn not_sent(l: Ledger, refusal: u32) -> Sending
-    ensures { beside (sent_as result.answer) (ledger_in result.ledger) ≡ beside (refused refusal) (ledger_in l) }
-{
-    Sending {
-        answer: Sent::Refused(refusal),
-        ledger: l,
-    }
-}
-
-// Send of a PDU by its PDCP number and its size: 9, 10, 39, 35, 36, or the X2-U number given out. 35 is for the highest, and with an
-// entry waiting for a number that doesn't follow the oldest such. That entry is read from `after`, since the compiler reads an entry
-// of `l` through a copy of all of them.
-pub fn send(l: Ledger, pdcp: u32, size: u32) -> Sending
-    ensures { beside (sent_as result.answer) (ledger_in result.ledger) ≡ «send_of» (ledger_in l) pdcp size tt }
-{
-    let closed = l.closed;
-    let highest = l.highest;
-    if closed {
-        return not_sent(l, refusal::CLOSED);
-    }
-    if circle::pdcps(l.bits) <= pdcp {
-        return not_sent(l, refusal::NUMBER);
-    }
-    if !is_size(size) {
-        return not_sent(l, refusal::SIZE);
-    }
-    if pdcp == highest {
-        return not_sent(l, refusal::PDCP_ORDER);
-    }
-    let mut after = l;
-    let oldest = l.oldest;
-    if oldest < basics::least(l.count, MOST_ENTRIES) {
-        let e = after.entries[oldest];
-        if !follows(l.bits, e.pdcp, l.sent, pdcp) {
-            return not_sent(l, refusal::PDCP_ORDER);
+    // An end with no entries.
+    fn fresh(bits: u32, next: u32, highest: u32, closed: bool) -> Ledger
+        ensures { ledger_in result ≡ «fresh_of» (length_in bits) next highest closed }
+    {
+        Ledger {
+            entries: Entries::none(),
+            bits,
+            next,
+            highest,
+            sent: highest,
+            closed,
+            desired: 0,
+            minimum: 0,
+            octets: 0,
+            oldest: 0,
         }
     }
-    let n = l.count;
-    if MOST_ENTRIES <= n {
-        return not_sent(l, refusal::ENTRIES);
-    }
-    after.entries[n] = ledger_entries::new_entry(l.next, pdcp, size as u16);
-    after.octets = raise(l.octets, size);
-    after.count = n + 1;
-    after.next = circle::onward(l.next, 1, circle::is_long(l.bits));
-    after.sent = pdcp;
-    Sending {
-        answer: Sent::Number(l.next),
-        ledger: after,
-    }
-}
 
-// ---- accepting a status
-
-// A refused status leaves the ledger.
-fn not_accepted(l: Ledger, refusal: u32) -> Accepting
-    ensures { beside (accepted_as result.answer) (ledger_in result.ledger) ≡ beside (refused refusal) (ledger_in l) }
-{
-    Accepting {
-        answer: Accepted::Refused(refusal),
-        ledger: l,
+    // An end that is closed and empty: what stands where an open was refused.
+    pub fn closed() -> Ledger
+        ensures { ledger_in result ≡ «fresh_of» 18 0 0 true }
+    {
+        Ledger::fresh(18, 0, 0, true)
     }
-}
 
-// Whether a status of this form is the bearer's.
-fn own_form(long: bool, bits: u32) -> bool
-    ensures { result ≡ alike long (is_long (length_in bits)) }
-{
-    let own = circle::is_long(bits);
-    if long { own } else { !own }
-}
+    // Open: 7, 10, or a fresh end.
+    pub fn open(bits: u32, first: u32, pdcp: u32) -> Result<Ledger, Refusal>
+        ensures { opened_as result ≡ open_ledger bits first pdcp }
+    {
+        if !circle::is_length(bits) {
+            return Err(Refusal::PdcpLength);
+        }
+        let most = circle::pdcps(bits);
+        if circle::modulus(circle::is_long(bits)) <= first || most <= pdcp {
+            return Err(Refusal::Number);
+        }
+        let before = (pdcp + (most - 1)) % most;
+        Ok(Ledger::fresh(bits, first, before, false))
+    }
 
-// The ranges and the highest of a status of the bearer's form: 33, 34, or the counts.
-fn apply(l: Ledger, frame: &[u8], head: Head) -> Accepting
-    requires { Held frame.now (cursor_of head) × (head.long ≡ is_long (length_in l.bits)) }
-    ensures { beside (accepted_as result.answer) (ledger_in result.ledger)
-        ≡ accept_marked (ledger_in l) (status_in frame.now head) (mark_lost (ledger_in l).bits (ledger_in l).entries (status_in frame.now head).ranges) }
-{
-    let es = l.entries;
-    let first = frame_reader::first_range(head);
-    let marked = ledger_marks::mark(es, l.count, l.octets, frame, first);
-    if !marked.found {
-        return not_accepted(l, refusal::NOT_WAITING);
+    // ---- send
+
+    // Whether a PDCP number follows, seen from that of the oldest waiting entry: past the last sent, and less than half the PDCP
+    // numbers past the oldest.
+    fn follows(&self, oldest: u32, pdcp: u32) -> bool
+        ensures { let l = ledger_in self.now in result ≡ (past_last l oldest pdcp and is_within_half l oldest pdcp) }
+    {
+        let length = circle::length_in(self.bits);
+        let to_sent = circle::forward(oldest, self.sent, length);
+        let to_pdcp = circle::forward(oldest, pdcp, length);
+        to_sent < to_pdcp && to_pdcp < circle::pdcps(self.bits) / 2
     }
-    let ms = marked.entries;
-    if !ledger_entries::may_be_highest(ms, l.count, l.highest, head.highest) {
-        return not_accepted(l, refusal::NO_SUCH_HIGHEST);
+
+    // Whether a PDCP number is in order: it isn't the highest, and follows the oldest waiting entry, if one waits.
+    fn is_in_order(&self, pdcp: u32) -> bool
+        ensures { result ≡ «is_in_order_of» (ledger_in self.now) pdcp }
+    {
+        if pdcp == self.highest {
+            return false;
+        }
+        match self.entries.held().get(self.oldest) {
+            Some(entry) => self.follows(entry.pdcp, pdcp),
+            None => true,
+        }
     }
-    let kept = ledger_entries::free_through(ms, l.count, marked.octets, l.highest, head.highest);
-    let rest = kept.entries;
-    let oldest = ledger_entries::waiting_from(rest, kept.count, l.oldest);
-    let n = basics::least(l.count, MOST_ENTRIES);
-    Accepting {
-        answer: Accepted::Counts {
-            freed: (n - kept.count) as u32,
+
+    // What is judged of a send before there is room for it: 9, 10, 39, 35.
+    fn judge(&self, pdcp: u32, size: u32) -> Result<(), Refusal>
+        ensures { judged_as result ≡ judged (ledger_in self.now) pdcp size }
+    {
+        if self.closed {
+            return Err(Refusal::Closed);
+        }
+        if circle::pdcps(self.bits) <= pdcp {
+            return Err(Refusal::Number);
+        }
+        if !is_size(size) {
+            return Err(Refusal::Size);
+        }
+        if !self.is_in_order(pdcp) {
+            return Err(Refusal::PdcpOrder);
+        }
+        Ok(())
+    }
+
+    // Send of a PDU by its PDCP number and its size: 9, 10, 39, 35, 36, or the X2-U number given out. 35 is for the highest, and with
+    // an entry waiting for a number that doesn't follow the oldest such.
+    pub fn send(&mut self, pdcp: u32, size: u32) -> Result<u32, Refusal>
+        ensures { beside (sent_as result) (ledger_in self.new) ≡ «send_of» (ledger_in self.old) pdcp size tt }
+    {
+        self.judge(pdcp, size)?;
+        let number = self.next;
+        self.entries.push(Entry::new(number, pdcp, size as u16))?;
+        self.next = circle::onward(number, 1, circle::is_long(self.bits));
+        self.sent = pdcp;
+        self.octets = raise(self.octets, size);
+        Ok(number)
+    }
+
+    // ---- accepting a status
+
+    // The ranges and the highest of a status of the bearer's form: 33, 34, or the counts. The ranges are applied to a copy of the
+    // entries, so that a refusal leaves them. Frame and head both come, since a view has no head.
+    fn apply(&mut self, frame: &[u8], head: Head) -> Result<Accepted, Refusal>
+        requires { Held frame.now (cursor_of head) × (head.long ≡ is_long (length_in self.old.bits)) }
+        ensures { let l = ledger_in self.old in let status = head_status frame.now head in
+            beside (accepted_as result) (ledger_in self.new) ≡ accept_marked l status (marking l status) }
+    {
+        let first = frame_reader::first_range(head);
+        let marked = ledger_marks::mark(&self.entries, self.octets, frame, first)?;
+        if !marked.entries.may_be_highest(self.highest, head.highest) {
+            return Err(Refusal::NoSuchHighest);
+        }
+        let mut octets = marked.octets;
+        let freed = self
+            .entries
+            .free_through(&marked.entries, &mut octets, self.highest, head.highest);
+        self.oldest = self.entries.waiting_from(self.oldest);
+        self.octets = octets;
+        self.highest = head.highest;
+        self.closed = head.last;
+        self.desired = head.desired;
+        self.minimum = head.minimum;
+        Ok(Accepted {
+            freed,
             lost: marked.lost,
             last: head.last,
-        },
-        ledger: Ledger {
-            entries: rest,
-            count: kept.count,
-            highest: head.highest,
-            closed: head.last,
-            desired: head.desired,
-            minimum: head.minimum,
-            octets: kept.octets,
-            oldest: oldest,
-            ..l
-        },
+        })
     }
-}
 
-// A status of either form: 31, 32, and then its ranges and its highest.
-fn accept_status(l: Ledger, frame: &[u8], head: Head) -> Accepting
-    requires { Held frame.now (cursor_of head) }
-    ensures { beside (accepted_as result.answer) (ledger_in result.ledger) ≡ «accept_status_of» (ledger_in l) (status_in frame.now head) }
-{
-    if !own_form(head.long, l.bits) {
-        return not_accepted(l, refusal::OTHER_TYPE);
+    // A status of either form: 31, 32, and then its ranges and its highest.
+    fn accept_status(&mut self, frame: &[u8], head: Head) -> Result<Accepted, Refusal>
+        requires { Held frame.now (cursor_of head) }
+        ensures { beside (accepted_as result) (ledger_in self.new) ≡ «accept_status_of» (ledger_in self.old) (head_status frame.now head) }
+    {
+        if head.long != circle::is_long(self.bits) {
+            return Err(Refusal::OtherType);
+        }
+        if circle::pdcps(self.bits) <= head.highest {
+            return Err(Refusal::HighestBits);
+        }
+        self.apply(frame, head)
     }
-    if circle::pdcps(l.bits) <= head.highest {
-        return not_accepted(l, refusal::HIGHEST_BITS);
-    }
-    apply(l, frame, head)
-}
 
-// Accepting any octets: 9, 1 to 6, 31, 32, 33, 34, or the counts.
-pub fn accept(l: Ledger, frame: &[u8]) -> Accepting
-    ensures { beside (accepted_as result.answer) (ledger_in result.ledger) ≡ «accept_of» (ledger_in l) frame.now }
-{
-    if l.closed {
-        return not_accepted(l, refusal::CLOSED);
+    // Accepting any octets: 9, 1 to 6, 31, 32, 33, 34, or the counts.
+    pub fn accept(&mut self, frame: &[u8]) -> Result<Accepted, Refusal>
+        ensures { beside (accepted_as result) (ledger_in self.new) ≡ «accept_of» (ledger_in self.old) frame.now }
+    {
+        if self.closed {
+            return Err(Refusal::Closed);
+        }
+        match frame_reader::read(frame) {
+            Frame::Data { .. } => Err(Refusal::OtherType),
+            Frame::Status(head) => self.accept_status(frame, head),
+            Frame::Refused(refusal) => Err(refusal),
+        }
     }
-    match frame_reader::read(frame) {
-        Frame::Data { long: _, number: _ } => not_accepted(l, refusal::OTHER_TYPE),
-        Frame::Status(head) => accept_status(l, frame, head),
-        Frame::Refused(n) => not_accepted(l, n),
+
+    // ---- take
+
+    // Take: 38, or the two numbers and the size of the oldest entry that may go.
+    pub fn take(&mut self) -> Result<Taken, Refusal>
+        ensures { beside (taken_as result) (ledger_in self.new) ≡ take_oldest (ledger_in self.old) }
+    {
+        let at = self.entries.to_take(self.closed).ok_or(Refusal::Nothing)?;
+        let entry = self.entries.slots[at];
+        self.entries.remove(at);
+        let from = ledger_entries::place_without(at, self.oldest);
+        self.oldest = self.entries.waiting_from(from);
+        self.octets = self.octets.saturating_sub(entry.waiting_size());
+        Ok(Taken {
+            number: entry.number,
+            pdcp: entry.pdcp,
+            size: u32::from(entry.size),
+        })
     }
-}
 
-// ---- take
+    // ---- room
 
-// Take: 38, or the two numbers and the size of the oldest entry that may go.
-pub fn take(l: Ledger) -> Taking
-    ensures { beside (taken_as result.answer) (ledger_in result.ledger) ≡ take_oldest (ledger_in l) }
-{
-    let es = l.entries;
-    let at = ledger_entries::to_take(es, l.count, l.closed);
-    if basics::least(l.count, MOST_ENTRIES) <= at {
-        return Taking {
-            answer: Taken::Refused(refusal::NOTHING),
-            ledger: l,
-        };
+    // Room: the desired size of the last accepted status less the sizes of all waiting entries; 0 where that would be negative or no
+    // status has come. A closed end answers it too. It looks at the sum that is kept, and at no entry.
+    pub fn room(&self) -> u32
+        ensures { result ≡ kept_room (ledger_in self.now) }
+    {
+        self.desired.saturating_sub(self.octets)
     }
-    let e = es[at];
-    let kept = ledger_entries::without(es, l.count, at);
-    let rest = kept.entries;
-    let from = ledger_entries::place_without(at, l.oldest);
-    let place = ledger_entries::waiting_from(rest, kept.count, from);
-    let octets = ledger_entries::less(l.octets, ledger_entries::waiting_size(e));
-    Taking {
-        answer: Taken::Packet {
-            number: e.number,
-            pdcp: e.pdcp,
-            size: e.size as u32,
-        },
-        ledger: Ledger {
-            entries: rest,
-            count: kept.count,
-            octets: octets,
-            oldest: place,
-            ..l
-        },
-    }
-}
-
-// ---- room
-
-// Room: the desired size of the last accepted status less the sizes of all waiting entries; 0 where that would be negative or no
-// status has come. A closed end answers it too. It looks at the sum that is kept, and at no entry.
-pub fn room(l: Ledger) -> u32
-    ensures { result ≡ kept_room (ledger_in l) }
-{
-    ledger_entries::less(l.desired, l.octets)
 }

@@ -1,3 +1,3 @@
-pub mod Entries
+pub mod Slots
 pub mod Passes
 pub mod Sums

@@ -12,8 +12,7 @@ use lib.Seq.{take-suc-set, drop-set-lt}
 use Rattle.bearer.specs.Ledger.{Entry, waits, as_lost, waiting_sizes}
 use Rattle.bearer.proofs.Master.Sums.{sizes_without}
 use Rattle.ledger_entries.specs.Steps.{Lowers}
-use Rattle.ledger_entries.proofs.Entries.{Stands}
-use Rattle.ledger_entries.proofs.Passes.{keeping}
+use Rattle.ledger_entries.proofs.Slots.{Stands}
 
 -- nothing has changed
 pub lowers_none : (octets : ℕ) (xs : List (Entry Unit)) → Lowers octets xs xs octets
@@ -44,9 +43,14 @@ module _ {octets left : ℕ} {ys : List (Entry Unit)} where
       record { no_more = omega arith; left_is = omega arith }
 
   -- the entry that a pass has come to goes, and those kept in front of it stay
-  pub lowers_passed : {xs : List (Entry Unit)} {i : ℕ} {e : Entry Unit} → Stands xs i e → (k : ℕ) → Lowers octets ys (keeping xs k i) left → waits e ≡ true
-      → {rest : ℕ} → rest ≡ left - e.size → Lowers octets ys (keeping xs k (i + 1)) rest
-  lowers_passed {xs} {i} {e} at k f w less = rw (add-one i) (lowers_one (take k xs) e (drop (suc i) xs) (rw at.rest at f) (rw w less))
+  pub lowers_passed : (front : List (Entry Unit)) {xs : List (Entry Unit)} {i : ℕ} {e : Entry Unit} → Stands xs i e → Lowers octets ys (front ++ drop i xs) left → waits e ≡ true
+      → {rest : ℕ} → rest ≡ left - e.size → Lowers octets ys (front ++ drop (i + 1) xs) rest
+  lowers_passed front {xs} {i} {e} at f w less = rw (add-one i) (lowers_one front e (drop (suc i) xs) (rw at.rest at f) (rw w less))
+
+  -- or it stays, behind them
+  pub lowers_kept : (front : List (Entry Unit)) {xs : List (Entry Unit)} {i : ℕ} {e : Entry Unit} → Stands xs i e → Lowers octets ys (front ++ drop i xs) left
+      → Lowers octets ys (front ++ (e ∷ []) ++ drop (i + 1) xs) left
+  lowers_kept front {xs} {i} {e} at f = rw (add-one i, append_assoc) (rw at.rest at f)
 
   -- an entry becomes lost where it stands
   pub lowers_lost : {xs : List (Entry Unit)} {i : ℕ} {e : Entry Unit} → Stands xs i e → Lowers octets ys xs left → waits e ≡ true

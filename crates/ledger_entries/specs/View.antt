@@ -6,6 +6,7 @@ use Rattle.bearer.specs.Bearer.{most_entries}
 use Rattle.bearer.specs.Ledger as machine
 use Rattle.ledger_entries.specs.declared.Fate as F
 use Rattle.ledger_entries.specs.declared.Entry as E
+use Rattle.ledger_entries.specs.declared.Entries as S
 
 -- what became of a packet
 abbrev pub fate_in : F.Fate → machine.Fate
@@ -23,3 +24,7 @@ entries_in es n = take n (map entry_in es)
 -- the entries that a count says, and no more than there are slots
 abbrev pub held_in : List E.Entry → ℕ → List (machine.Entry Unit)
 held_in es count = entries_in es (min count most_entries)
+
+-- those that are held
+abbrev pub entries_of : S.Entries → List (machine.Entry Unit)
+entries_of e = held_in e.slots e.count

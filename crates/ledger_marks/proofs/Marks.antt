@@ -17,11 +17,11 @@ use Rattle.circle.specs.Circle.{forward, forward_self, forward_none, one_nearer}
 use Rattle.circle.specs.Lengths.{modulus, is_long}
 use Rattle.circle.proofs.Forms.{modulus_bounds}
 use Rattle.frame_layout.specs.Frames.{Range}
-use Rattle.bearer.specs.Ledger.{Entry, Passed, note_in, as_lost, bears, after_number, mark_lost}
+use Rattle.bearer.specs.Ledger.{Entry, Passed, note_in, as_lost, waits, bears, after_number, mark_lost}
 use Rattle.ledger_entries.specs.declared.Entry.{Entry as Slot}
 use Rattle.ledger_entries.specs.View.{entry_in, held_in}
 use Rattle.ledger_entries.specs.Steps.{Lowers}
-use Rattle.ledger_entries.proofs.Entries.{Stands, Reached, here, stored}
+use Rattle.ledger_entries.proofs.Slots.{Stands, Reached, here, stored}
 use Rattle.ledger_entries.proofs.Passes.{in_front}
 use Rattle.ledger_entries.proofs.Sums.{lowers_lost}
 use Rattle.ledger_marks.proofs.Walks.{range}
@@ -38,6 +38,21 @@ marking xs i c rs L = in_front_any c (take i xs) (mark_lost L (drop i xs) rs)
 -- two passes come to the same on every bearer of a form
 abbrev pub Same : Bool → (ℕ → Option (Passed Unit)) → (ℕ → Option (Passed Unit)) → Type 0
 Same long f g = (L : ℕ) → is_long L ≡ long → f L ≡ g L
+
+-- ---- the entry that a pass has come to
+
+module _ (e : Entry Unit) (n : ℕ) where
+  -- it waits and bears the number
+  pub it_bears : waits e ≡ true → e.number ≡ n → bears e n ≡ true
+  it_bears w same = rw w (eq-eqb e.number n same)
+
+  -- it bears another
+  pub other_number : waits e ≡ true → (e.number ≡ n → ⊥) → bears e n ≡ false
+  other_number w other = rw w (ne_eqb e.number n other)
+
+  -- it doesn't wait
+  pub it_is_lost : waits e ≡ false → bears e n ≡ false
+  it_is_lost w = rw w
 
 -- before the first entry
 pub marking_none : (xs : List (Entry Unit)) (rs : List Range) (L : ℕ) → mark_lost L xs rs ≡ marking xs 0 0 rs L
@@ -74,7 +89,7 @@ module _ {xs : List (Entry Unit)} {i : ℕ} {e : Entry Unit} (at : Stands xs i e
 module _ {es : List Slot} {count n i : ℕ} (reached : Reached es count n i) (inside : i < n) (d x : Slot) (is : entry_in x ≡ as_lost (entry_in (get_or es i d)))
     (c s t : ℕ) (rs : List Range) (long : Bool) (b : bears (entry_in (get_or es i d)) s ≡ true) where
   found : (L : ℕ) → marking (held_in es count) i c (range s t ∷ rs) L ≡ marking (held_in (set es i x) count) (i + 1) (c + 1) (after_number L (range s t) rs) L
-  found L = rw (stored es count i x (omega arith), is) (hit (here reached inside d) c (range s t) rs b L)
+  found L = rw (stored reached inside x, is) (hit (here reached inside d) c (range s t) rs b L)
 
   -- behind the last number of a range the next range is looked for
   pub last_found : s ≡ t → Same long (marking (held_in es count) i c (range s t ∷ rs)) (marking (held_in (set es i x) count) (i + 1) (c + 1) rs)
@@ -89,7 +104,7 @@ pub lowers_found : {es : List Slot} {count n i : ℕ} (reached : Reached es coun
     → (s : ℕ) → bears (entry_in (get_or es i d)) s ≡ true → {octets left rest : ℕ} {ys : List (Entry Unit)} → Lowers octets ys (held_in es count) left → rest ≡ left - (get_or es i d).size
     → Lowers octets ys (held_in (set es i x) count) rest
 lowers_found {es} {count} {n} {i} reached inside d x is s b f less =
-    rw (stored es count i x (omega arith), is) (lowers_lost (here reached inside d) f (and_true _ _ b).0 less)
+    rw (stored reached inside x, is) (lowers_lost (here reached inside d) f (and_true _ _ b).0 less)
 
 -- without ranges nothing changes
 nothing_left : (L : ℕ) (ys : List (Entry Unit)) → mark_lost L ys [] ≡ some (record { entries = ys; count = 0 })

@@ -5,14 +5,13 @@ use Rattle.ledger_probe.specs.Rig.{counts, accept_again}
 use Rattle.ledger_probe.proofs.Turns.{left_more, sum_more}
 use Rattle.ledger_probe.proofs.accept_turns.Goals as goal
 
-pub loop-i-preserved : goal.loop-i-preserved
-loop-i-preserved c =
+pub loop-turn-preserved : goal.loop-turn-preserved
+loop-turn-preserved c =
     let again = accept_again c.args.frame.now in
-    let made = c.accept-a.ensures in
-    let v = c.loop-i.invariant in
+    let made = c.accept-answer.ensures in
+    let v = c.loop-turn.invariant in
     record {
-      within = omega arith;
       fits = omega arith;
-      leaves = left_more again c.args.turns made c.loop-i-test.true ∙ v.leaves;
-      sums = sum_more again c.args.turns made c.loop-i-test.true counts c.loop-i.sum c.add_accepted-sum.result c.add_accepted-sum.ensures ∙ v.sums;
+      leaves = left_more again c.args.turns made c.loop-turn-test.true ∙ v.leaves;
+      sums = sum_more again c.args.turns made c.loop-turn-test.true counts c.loop-turn.sum c.add-sum.result (omega arith) ∙ v.sums;
     }

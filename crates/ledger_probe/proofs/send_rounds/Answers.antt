@@ -9,20 +9,19 @@ use Rattle.ledger_probe.proofs.Turns.{sum_more}
 use Rattle.ledger_probe.proofs.send_rounds.Goals as goal
 use Rattle.ledger_probe.proofs.send_rounds.Goals.{then-at-eq0, else-at-eq0}
 
-pub loop-i-preserved : goal.loop-i-preserved
-loop-i-preserved c =
+pub loop-turn-preserved : goal.loop-turn-preserved
+loop-turn-preserved c =
     let a = c.args in
-    let p = c.loop-i in
-    let first = ledger_in a.start in
-    let at = p.i % a.round in
-    let chosen : Bool → Ledger Unit = λ b. if b then first else ledger_in p.l in
-    let into : ledger_in c.if-at-eq0.l ≡ (if eqb at 0 then first else ledger_in p.l) = elim c.if-at-eq0.branch [
-      | then-at-eq0 w ↦ ap ledger_in w.l-is ∙ sym (ap chosen (eq-eqb at 0 w.if-at-eq0.true))
-      | else-at-eq0 w ↦ ap ledger_in w.l-is ∙ sym (ap chosen (ne_eqb at 0 w.if-at-eq0.false))
+    let p = c.loop-turn in
+    let first = ledger_in a.start.now in
+    let at = p.turn % a.round in
+    let chosen : Bool → Ledger Unit = λ b. if b then first else ledger_in p.ledger in
+    let into : ledger_in c.if-at-eq0.ledger ≡ (if eqb at 0 then first else ledger_in p.ledger) = elim c.if-at-eq0.branch [
+      | then-at-eq0 w ↦ ap ledger_in w.ledger-is ∙ sym (ap chosen (eq-eqb at 0 w.if-at-eq0.true))
+      | else-at-eq0 w ↦ ap ledger_in w.ledger-is ∙ sym (ap chosen (ne_eqb at 0 w.if-at-eq0.false))
     ] in
-    let made = c.send-s.ensures ∙ ap (send_next (a.pdcp + at)) into in
+    let made = c.send-answer.ensures ∙ ap (send_next (a.pdcp + at)) into in
     record {
-      within = omega arith;
       fits = omega arith;
-      sums = sum_more (send_round a.pdcp a.round first) a.turns made c.loop-i-test.true number p.sum c.add_sent-sum.result c.add_sent-sum.ensures ∙ p.invariant.sums;
+      sums = sum_more (send_round a.pdcp a.round first) a.turns made c.loop-turn-test.true number p.sum c.add-sum.result c.add-sum.ensures ∙ p.invariant.sums;
     }
