@@ -1,16 +1,17 @@
 -- What the C boundary answers and leaves, by the definitions that the contracts of the crates below it cite.
 -- An answer is one integer: from 0 on what document 01 answers, below 0 a refusal.
 -- Assumes nothing.
-use Rattle.std.specs.Prelude.{Bool, List, [], ◌∷◌, ℕ, ◌-◌, ◌^◌, ltb, ℤ, pos, neg_ℤ, length, get_or, if◌then◌else◌}
+use Rattle.std.specs.Prelude.{Bool, List, [], ◌∷◌, ℕ, ◌-◌, ◌^◌, ltb, ℤ, pos, neg_ℤ, length, get_or, Option, Some, None, Result, Ok, Err, if◌then◌else◌}
 use Rattle.std.proofs.lemmas.List.Edits.{sets}
 use Rattle.basics.specs.Basics.{bit, Outcome, done, refused, is_set}
+use Rattle.refusal.specs.declared.Refusal.{Refusal}
+use Rattle.refusal.specs.Numbers.{number_of}
 use Rattle.frame_layout.specs.Frames as frames
 use Rattle.frame_layout.specs.Frames.{Reading, data_of, status_of, refuse, Written, starts_of, ends_of, data_type, status_type, width, list_at, most_octets}
 use Rattle.bearer.specs.Bearer.{After}
 use Rattle.bearer.specs.Keeper.{Keeper, Reported}
 use Rattle.frame_reader.specs.declared.Cursor.{Cursor}
 use Rattle.frame_reader.specs.declared.Step.{Step}
-use Rattle.frame_reader.specs.declared.Step.TheVariants.{Range, End}
 use Rattle.frame_reader.specs.Answers.{next_in}
 
 -- ---- answers
@@ -22,6 +23,11 @@ most_answer = 2 ^ 63 - 1
 -- document 01's refusal n is answered as minus n
 abbrev pub minus : ℕ → ℤ
 minus n = neg_ℤ (pos n)
+
+-- a result's answer: its value's number, or minus the number of its refusal
+abbrev pub said : {T : Type 0} → (T → ℕ) → Result T Refusal → ℤ
+said value (Ok t) = pos (value t)
+said value (Err r) = minus (number_of r)
 
 -- a value by its number, a refusal by minus its number
 abbrev pub answer_of : {A : Type 0} → (A → ℕ) → Outcome A → ℤ
@@ -71,10 +77,6 @@ type_of (data_of long n) = pos (data_type long)
 type_of (status_of s) = pos (status_type s.long)
 type_of (refuse n) = minus n
 
--- how many fields a frame has, as numbers
-abbrev pub field_count : ℕ
-field_count = 6
-
 -- the fields in place of what was there, each in a place of its own: the number of data, and of a status the highest PDCP number,
 -- desired size, minimum size, Final and how many ranges. One that the frame hasn't is 0. A refusal leaves what was there.
 abbrev pub fields_of : List ℕ → Reading → List ℕ
@@ -96,10 +98,6 @@ reads old r = leaves (type_of r) (fields_of old r)
 abbrev pub reads_all : List ℕ → List ℕ → List ℕ → Reading → Left (List ℕ × List ℕ × List ℕ)
 reads_all old starts ends r = leaves (type_of r) (fields_of old r, sets starts 0 (starts_of (ranges_in r)), sets ends 0 (ends_of (ranges_in r)))
 
--- how many words a cursor has
-abbrev pub cursor_count : ℕ
-cursor_count = 3
-
 -- the cursor that words say: its form, its place, and how many ranges are left
 abbrev pub cursor_in : List ℕ → Cursor
 cursor_in w = record { long = is_set (get_or w 0 0); place = get_or w 1 0; left = get_or w 2 0 }
@@ -116,10 +114,10 @@ begins old (status_of s) = leaves (pos (length s.ranges)) (bit s.long ∷ list_a
 begins old (refuse n) = leaves (minus n) old
 
 -- the range at a cursor; octets longer than any frame have none
-abbrev pub step_in : List ℕ → Cursor → Step
-step_in s c = if ltb most_octets (length s) then End else next_in s c
+abbrev pub step_in : List ℕ → Cursor → Option Step
+step_in s c = if ltb most_octets (length s) then None else next_in s c
 
 -- 1, and the cursor behind the range and the range in place of what was there; 0 and no change where none is left
-abbrev pub steps : List ℕ → List ℕ → Step → Left (List ℕ × List ℕ)
-steps at old (Range start end rest) = leaves (pos 1) (words_of rest, start ∷ end ∷ [])
-steps at old End = leaves (pos 0) (at, old)
+abbrev pub steps : List ℕ → List ℕ → Option Step → Left (List ℕ × List ℕ)
+steps at old (Some t) = leaves (pos 1) (words_of t.rest, t.range.start ∷ t.range.end ∷ [])
+steps at old None = leaves (pos 0) (at, old)

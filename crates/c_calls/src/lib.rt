@@ -6,108 +6,72 @@
 // passes through memory.
 #![tactic(auto)]
 
-ghost use Rattle.std.specs.Prelude.{◌≡◌, [], ◌∷◌, ℕ, ◌≤◌, min, pos, negsuc, ◌-ℤ◌, length};
-ghost use Rattle.basics.specs.Basics.{is_set};
+ghost use Rattle.std.specs.Prelude.{◌≡◌, ℕ, ◌^◌, ◌<◌, min, pos, negsuc};
+ghost use Rattle.basics.specs.Basics.{bit, is_set};
 ghost use Rattle.frame_layout.specs.Frames.{read_frame};
+ghost use Rattle.frame_layout.specs.Types.{number_of};
+ghost use Rattle.refusal.specs.Numbers.{answer_of};
 ghost use Rattle.bearer.specs.Keeper.{open_keeper, arrive, expire, confirm, status, anything};
 ghost use Rattle.keeper.specs.View.{keeper_in, opens_into, arrays};
 ghost use Rattle.keeper.specs.Plain.{Plain};
-ghost use Rattle.c_calls.specs.Boundary.{minus, most_answer, field_count, cursor_count, leaves, counts, settles, reports, tells, fields_of, reads, cursor_in as «cursor_in_of», begins, step_in, steps};
-ghost use Rattle.c_calls.specs.Looks.{kind_of, refusal_of, answer_to, is_status as «is_status_of», first_of};
+ghost use Rattle.c_calls.specs.Boundary.{counts, settles, reports, tells, most_answer, leaves, said, fields_of, reads, cursor_in as «cursor_in_of», words_of as «words_of_of», begins, step_in, steps};
+ghost use Rattle.c_calls.specs.Looks.{kind_of, first_of as «first_of_of»};
 
-const FIELDS: usize = 6; // the fields of a frame, as numbers: number, highest, desired, minimum, final, ranges
+use frame_layout::FrameType;
+use frame_reader::{Cursor, Frame};
+use keeper::State;
+use keeper_state::Held;
+use refusal::Refusal;
 
-pub const RANGES: usize = 5; // where the count of ranges stands among them
+pub const RANGES: usize = 5; // where the count of ranges stands among a frame's fields
 
-const CURSOR: usize = 3; // the words of a cursor
+// What C lends for a frame's fields (number, highest, desired, minimum, final, ranges), for a cursor, and for a range, by place (include/x2u.h).
+pub type FieldArray = [u32; 6];
 
-const RANGE: usize = 2; // the ends of a range
+pub type CursorArray = [u32; 3];
 
-const NO_TYPE: u32 = 4; // the kind of a refusal, past every type
-
-const MOST_ANSWER: usize = 9223372036854775807; // the greatest answer
-
-// What is lent for a frame's fields, for a cursor, and for a range.
-pub type FieldArray = [u32; FIELDS];
-
-pub type CursorArray = [u32; CURSOR];
-
-pub type EndArray = [u32; RANGE];
+pub type EndArray = [u32; 2];
 
 // ---- reading
 
-// What a look at a frame tells: its type, 0 to 3, or 4 and the number of a refusal.
-#[derive(Drop)]
-pub struct Seen {
-    pub kind: u32,
-    pub refusal: u32,
-}
-
-// Reads a frame into its fields. The one place that calls the reader.
-pub fn look(frame: &[u8], fields: &mut FieldArray) -> Seen
-    ensures { (result.kind ≡ kind_of (read_frame frame.now)) × (result.refusal ≡ refusal_of (read_frame frame.now))
-        × (fields.new ≡ fields_of fields.old (read_frame frame.now)) }
+// Reads a frame into its fields: its type, or the refusal. The one place that calls the reader.
+pub fn look(frame: &[u8], fields: &mut FieldArray) -> Result<FrameType, Refusal>
+    ensures { (answer_of number_of result ≡ kind_of (read_frame frame.now)) × (fields.new ≡ fields_of fields.old (read_frame frame.now)) }
 {
     match frame_reader::read(frame) {
-        frame_reader::Frame::Data { long, number } => {
-            put_fields(fields, number, 0, 0, 0, 0, 0);
-            Seen {
-                kind: frame_layout::data_type(long) as u32,
-                refusal: 0,
-            }
+        Frame::Data { long, number } => {
+            *fields = [number, 0, 0, 0, 0, 0];
+            Ok(frame_layout::data_type(long))
         }
-        frame_reader::Frame::Status(head) => {
-            put_fields(
-                fields,
+        Frame::Status(head) => {
+            *fields = [
                 0,
                 head.highest,
                 head.desired,
                 head.minimum,
-                basics::flag(head.last),
+                u32::from(head.last),
                 head.count,
-            );
-            Seen {
-                kind: frame_layout::status_type(head.long) as u32,
-                refusal: 0,
-            }
+            ];
+            Ok(frame_layout::status_type(head.long))
         }
-        frame_reader::Frame::Refused(n) => Seen {
-            kind: NO_TYPE,
-            refusal: n,
-        },
+        Frame::Refused(refusal) => Err(refusal),
     }
 }
 
-// The answer to what was seen.
-pub fn answer(seen: Seen) -> i64
-    ensures { result ≡ answer_to seen.kind seen.refusal }
+// The cursor before the first of so many ranges of a frame of this type, if it is a status.
+pub fn first_of(kind: FrameType, count: u32) -> Option<Cursor>
+    ensures { result ≡ «first_of_of» kind count }
 {
-    if seen.kind < NO_TYPE {
-        return value(seen.kind);
-    }
-    refused(seen.refusal)
-}
-
-// Whether a status was seen.
-pub fn is_status(kind: u32) -> bool
-    ensures { result ≡ «is_status_of» kind }
-{
-    if kind == 1 {
-        return true;
-    }
-    kind == 2
-}
-
-// The cursor before the first of so many ranges of a status of this type.
-pub fn first_of(kind: u32, count: u32) -> frame_reader::Cursor
-    ensures { (result ≡ first_of kind count) × (result.place ≤ 13) }
-{
-    let long = kind == 2;
-    frame_reader::Cursor {
-        long: long,
+    let long = match kind {
+        FrameType::Status => false,
+        FrameType::LongStatus => true,
+        FrameType::Data | FrameType::LongData => return None,
+    };
+    Some(Cursor {
+        long,
         place: frame_layout::list_at(long),
         left: count,
-    }
+    })
 }
 
 // Reads a frame: its type, 0 to 3. The fields are the X2-U number of data, and of a status the highest PDCP number, the desired
@@ -115,26 +79,23 @@ pub fn first_of(kind: u32, count: u32) -> frame_reader::Cursor
 pub fn x2u_read(frame: &[u8], fields: &mut FieldArray) -> i64
     ensures { leaves result fields.new ≡ reads fields.old (read_frame frame.now) }
 {
-    let seen = look(frame, fields);
-    answer(seen)
+    answer(look(frame, fields))
 }
 
 // Puts a cursor before the first range of a frame: how many ranges it has, which for data is none.
 pub fn x2u_first_range(frame: &[u8], cursor: &mut CursorArray) -> i64
     ensures { leaves result cursor.new ≡ begins cursor.old (read_frame frame.now) }
 {
-    let mut fields = [0; FIELDS];
+    let mut fields = [0; 6];
     let seen = look(frame, &mut fields);
-    if NO_TYPE <= seen.kind {
-        return refused(seen.refusal);
-    }
-    if !is_status(seen.kind) {
-        put_cursor(cursor, 0, 0, 0);
-        return 0;
-    }
-    let at = first_of(seen.kind, fields[RANGES]);
-    put_cursor(cursor, basics::flag(at.long), at.place as u32, at.left);
-    value(at.left)
+    let Ok(kind) = seen else {
+        return answer(seen);
+    };
+    *cursor = match first_of(kind, fields[RANGES]) {
+        Some(at) => words_of(at),
+        None => [0; 3],
+    };
+    i64::from(fields[RANGES])
 }
 
 // Takes the range at a cursor: 1, or 0 where none is left.
@@ -145,23 +106,15 @@ pub fn x2u_next_range(frame: &[u8], cursor: &mut CursorArray, range: &mut EndArr
     if frame_layout::MOST_OCTETS < frame.len() {
         return 0;
     }
-    let at = cursor_in(cursor);
-    match frame_reader::next_range(frame, at) {
-        frame_reader::Step::Range { start, end, rest } => {
-            put_cursor(
-                cursor,
-                basics::flag(rest.long),
-                rest.place as u32,
-                rest.left,
-            );
-            put_range(range, start, end);
-            1
-        }
-        frame_reader::Step::End => 0,
-    }
+    let Some(step) = frame_reader::next_range(frame, cursor_in(cursor)) else {
+        return 0;
+    };
+    *cursor = words_of(step.rest);
+    *range = [step.range.start, step.range.end];
+    1
 }
 
-// ---- the keeper, whose state is six lent arrays
+// ---- the keeper, whose state is six lent arrays: C lends each, so each is a parameter, and each call puts them together
 
 // Opens the end: 0.
 pub fn x2u_keeper_open(
@@ -181,12 +134,15 @@ pub fn x2u_keeper_open(
         ≡ arrays numbers.old pdcps.old marks.old starts.old ends.old words.old }
     ensures plain { (n : ℕ) → result ≡ pos n → Plain words.new marks.new }
 {
-    match keeper::open(
-        numbers, pdcps, marks, starts, ends, words, length, number, pdcp,
-    ) {
-        keeper::Opened::Done => 0,
-        keeper::Opened::Refused(n) => refused(n),
-    }
+    let mut state = State {
+        numbers,
+        pdcps,
+        marks,
+        starts,
+        ends,
+        words,
+    };
+    answer(keeper::open(&mut state, length, number, pdcp))
 }
 
 // Arrival of a number and a PDCP number: how many numbers became lost.
@@ -206,10 +162,15 @@ pub fn x2u_keeper_arrive(
         ≡ arrays numbers.old pdcps.old marks.old starts.old ends.old words.old }
     ensures plain { Plain words.old marks.old → Plain words.new marks.new }
 {
-    match keeper::arrive(numbers, pdcps, marks, starts, ends, words, number, pdcp) {
-        keeper::Counted::Lost(n) => value(n),
-        keeper::Counted::Refused(n) => refused(n),
-    }
+    let mut state = State {
+        numbers,
+        pdcps,
+        marks,
+        starts,
+        ends,
+        words,
+    };
+    answer(keeper::arrive(&mut state, number, pdcp))
 }
 
 // Expiry of what is open before a mark: how many numbers became lost.
@@ -228,10 +189,15 @@ pub fn x2u_keeper_expire(
         ≡ arrays numbers.old pdcps.old marks.old starts.old ends.old words.old }
     ensures plain { Plain words.old marks.old → Plain words.new marks.new }
 {
-    match keeper::expire(numbers, pdcps, marks, starts, ends, words, mark) {
-        keeper::Counted::Lost(n) => value(n),
-        keeper::Counted::Refused(n) => refused(n),
-    }
+    let mut state = State {
+        numbers,
+        pdcps,
+        marks,
+        starts,
+        ends,
+        words,
+    };
+    answer(keeper::expire(&mut state, mark))
 }
 
 // A number is confirmed: 0.
@@ -250,10 +216,15 @@ pub fn x2u_keeper_confirm(
         ≡ arrays numbers.old pdcps.old marks.old starts.old ends.old words.old }
     ensures plain { Plain words.old marks.old → Plain words.new marks.new }
 {
-    match keeper::confirm(numbers, pdcps, marks, starts, ends, words, number) {
-        keeper::Confirmed::Done => 0,
-        keeper::Confirmed::Refused(n) => refused(n),
-    }
+    let mut state = State {
+        numbers,
+        pdcps,
+        marks,
+        starts,
+        ends,
+        words,
+    };
+    answer(keeper::confirm(&mut state, number))
 }
 
 // A status frame at the front of a buffer: how many octets it has.
@@ -275,24 +246,18 @@ pub fn x2u_keeper_status(
         ≡ arrays numbers.old pdcps.old marks.old starts.old ends.old words.old }
     ensures plain { Plain words.old marks.old → Plain words.new marks.new }
 {
-    match keeper::status(
+    let mut state = State {
         numbers,
         pdcps,
         marks,
         starts,
         ends,
         words,
-        desired,
-        minimum,
-        basics::is_set(last),
-        dst,
-    ) {
-        keeper::Frame::Octets(n) => octets(n),
-        keeper::Frame::Refused(n) => refused(n),
-    }
+    };
+    answer(keeper::status(&mut state, desired, minimum, basics::is_set(last), dst))
 }
 
-// Anything to say: 1 for yes, 0 for no.
+// Anything to say: 1 for yes, 0 for no. C lends the arrays to be read alone.
 pub fn x2u_keeper_anything(
     numbers: &keeper::RecordArray,
     pdcps: &keeper::RecordArray,
@@ -303,99 +268,91 @@ pub fn x2u_keeper_anything(
 ) -> i64
     ensures { result ≡ tells (anything (keeper_in numbers.now pdcps.now marks.now starts.now ends.now words.now)) }
 {
-    match keeper::anything(numbers, pdcps, marks, starts, ends, words) {
-        keeper::Asked::Yes => 1,
-        keeper::Asked::No => 0,
-        keeper::Asked::Refused(n) => refused(n),
-    }
+    answer(keeper::anything(&Held::of(numbers, pdcps, marks, starts, ends, words)))
 }
 
 // ---- answers
 
-// A refusal n is answered as minus n.
-pub fn refused(n: u32) -> i64
-    ensures { result ≡ minus n }
-{
-    less(0, n)
+// What a call answers where it isn't refused: a number from 0 on.
+pub trait Value {
+    ghost number: { Self → ℕ };
+
+    fn number(self) -> i64
+        ensures { result ≡ pos (number self) };
 }
 
-// A number less another.
-fn less(a: u32, b: u32) -> i64
-    ensures { result ≡ pos a -ℤ pos b }
-{
-    (a as i64) - (b as i64)
+// A frame type's number.
+impl Value for FrameType {
+    ghost number = { number_of };
+
+    fn number(self) -> i64 {
+        i64::from(u8::from(self))
+    }
 }
 
-// A number, as an answer.
-fn value(n: u32) -> i64
-    ensures { result ≡ pos n }
-{
-    n as i64
+// A count is itself.
+impl Value for u32 {
+    ghost number = { λ n. n };
+
+    fn number(self) -> i64 {
+        i64::from(self)
+    }
 }
 
-// A frame's length, as an answer: no more than an answer holds.
-pub fn octets(n: usize) -> i64
-    ensures { result ≡ pos (min n most_answer) }
+// Nothing to say is 0.
+impl Value for () {
+    ghost number = { λ u. 0 };
+
+    fn number(self) -> i64 {
+        0
+    }
+}
+
+// Yes is 1 and no is 0.
+impl Value for bool {
+    ghost number = { bit };
+
+    fn number(self) -> i64 {
+        i64::from(self)
+    }
+}
+
+// A frame's length, no more than an answer holds.
+impl Value for usize {
+    ghost number = { λ n. min n most_answer };
+
+    fn number(self) -> i64 {
+        i64::try_from(self).unwrap_or(i64::MAX)
+    }
+}
+
+// The answer to a result: its value's number, or minus the number of the refusal.
+pub fn answer<T: Value>(told: Result<T, Refusal>) -> i64
+    ensures { result ≡ said T.number told }
 {
-    basics::least(n, MOST_ANSWER) as i64
+    match told {
+        Ok(value) => value.number(),
+        Err(refusal) => -i64::from(u32::from(refusal)),
+    }
 }
 
 // ---- words
 
-// All six fields are written.
-fn put_fields(
-    fields: &mut [u32],
-    number: u32,
-    highest: u32,
-    desired: u32,
-    minimum: u32,
-    last: u32,
-    ranges: u32,
-)
-    requires { length fields.old ≡ field_count }
-    ensures { fields.new ≡ number ∷ highest ∷ desired ∷ minimum ∷ last ∷ ranges ∷ [] }
+// The words that say a cursor, whose place is one within a frame.
+fn words_of(at: Cursor) -> CursorArray
+    requires { at.place < 2 ^ 32 }
+    ensures { result ≡ «words_of_of» at }
 {
-    fields[0] = number;
-    fields[1] = highest;
-    fields[2] = desired;
-    fields[3] = minimum;
-    fields[4] = last;
-    fields[RANGES] = ranges;
-}
-
-// All three words of a cursor are written.
-fn put_cursor(cursor: &mut [u32], long: u32, place: u32, left: u32)
-    requires { length cursor.old ≡ cursor_count }
-    ensures { cursor.new ≡ long ∷ place ∷ left ∷ [] }
-{
-    cursor[0] = long;
-    cursor[1] = place;
-    cursor[2] = left;
-}
-
-// Both ends of a range are written.
-fn put_range(range: &mut [u32], start: u32, end: u32)
-    requires { length range.old ≡ 2 }
-    ensures { range.new ≡ start ∷ end ∷ [] }
-{
-    range[0] = start;
-    range[1] = end;
-}
-
-// A place of 32 bits.
-fn wide(place: u32) -> usize
-    ensures { result ≡ place }
-{
-    place as usize
+    [u32::from(at.long), at.place as u32, at.left]
 }
 
 // The cursor as it stands.
-fn cursor_in(cursor: &CursorArray) -> frame_reader::Cursor
+fn cursor_in(cursor: &CursorArray) -> Cursor
     ensures { result ≡ «cursor_in_of» cursor.now }
 {
-    frame_reader::Cursor {
+    Cursor {
         long: basics::is_set(cursor[0]),
-        place: wide(cursor[1]),
+        place: cursor[1] as usize,
         left: cursor[2],
     }
 }

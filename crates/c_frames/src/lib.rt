@@ -22,14 +22,10 @@ pub extern "C" fn x2u_read_all(
         ≡ reads_all fields.old starts.old ends.old (read_frame frame.now) }
 {
     let seen = c_calls::look(frame, fields);
-    if c_calls::is_status(seen.kind) {
-        frame_reader::put_ranges(
-            frame,
-            c_calls::first_of(seen.kind, fields[c_calls::RANGES]),
-            starts,
-            ends,
-        );
-        return c_calls::answer(seen);
+    if let Ok(kind) = seen {
+        if let Some(at) = c_calls::first_of(kind, fields[c_calls::RANGES]) {
+            frame_reader::put_ranges(frame, at, starts, ends);
+        }
     }
     c_calls::answer(seen)
 }
@@ -41,10 +37,7 @@ pub extern "C" fn x2u_read_all(
 pub extern "C" fn x2u_write_data(long: u32, number: u32, dst: &mut [u8]) -> i64
     ensures { leaves result dst.new ≡ writes (write_data (is_set long) number dst.old) }
 {
-    match frame_writer::write_data(basics::is_set(long), number, dst) {
-        frame_writer::Wrote::Octets(n) => c_calls::octets(n),
-        frame_writer::Wrote::Refused(n) => c_calls::refused(n),
-    }
+    c_calls::answer(frame_writer::write_data(basics::is_set(long), number, dst))
 }
 
 // Writes a status frame at the front of a buffer: how many octets it has. Range i is starts[i] to ends[i]. C gives its fields by
@@ -66,12 +59,9 @@ pub extern "C" fn x2u_write_status_parts(
     let head = frame_writer::Head {
         long: basics::is_set(long),
         last: basics::is_set(last),
-        highest: highest,
-        desired: desired,
-        minimum: minimum,
+        highest,
+        desired,
+        minimum,
     };
-    match frame_writer::write_status(head, starts, ends, dst) {
-        frame_writer::Wrote::Octets(n) => c_calls::octets(n),
-        frame_writer::Wrote::Refused(n) => c_calls::refused(n),
-    }
+    c_calls::answer(frame_writer::write_status(head, starts, ends, dst))
 }
