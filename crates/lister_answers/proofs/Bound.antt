@@ -19,10 +19,10 @@ use Rattle.frame_layout.proofs.Read.{frame_read, read_is_writable}
 use Rattle.lister_text.specs.Texts.{ascii, tab, line_feed, range_text, ranges_text}
 use Rattle.lister_text.specs.Hexadecimal.{unreadable, octets_in}
 use Rattle.lister_answers.specs.Answers.{answer_to, line_of, most_text}
-use Rattle.lister_answers.specs.Parts.{marked, tabbed, more_text}
+use Rattle.lister_answers.specs.Parts.{marked, tabbed}
 use Rattle.lister_text.proofs.Decimal.{decimal_most}
 use Rattle.lister_text.proofs.Hex.{octets_are}
-use Rattle.lister_answers.proofs.Texts.{ranges_text_lem, data_text, refused_text, status_text}
+use Rattle.lister_answers.proofs.Texts.{more_text, ranges_text_lem, data_text, refused_text, status_text}
 
 -- a number of ten digits with a mark
 marked_most : (n m : ℕ) → n < 10 ^ 10 → length (marked n m) ≤ 11

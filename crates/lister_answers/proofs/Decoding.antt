@@ -1,6 +1,6 @@
 -- What a decoded line leaves: the front of the frame's buffer is the frame, and the answer to the line is the frame's.
 -- Assumes nothing.
-use Rattle.std.specs.Prelude.{if◌then◌else◌}
+use Rattle.std.specs.Prelude.{Some, None, if◌then◌else◌}
 use mathlib.Core.Path.{◌≡◌, refl, sym, ◌∙◌, ap}
 use mathlib.Core.Bool.{Bool, true, false, not}
 use mathlib.Core.List.{List}
@@ -16,20 +16,19 @@ use Rattle.basics.proofs.Choices.{or_false}
 use Rattle.lister_text.specs.Texts.{ascii}
 use Rattle.lister_text.specs.Hexadecimal.{is_digit, octets_in, bad_count, most_digits, unreadable, decoded_of, decoded_into}
 use Rattle.lister_answers.specs.Answers.{answer_to, line_of}
-use Rattle.lister_text.specs.declared.Decoded.TheVariants.{Octets, Unreadable}
 use Rattle.lister_text.proofs.Hex.{octets_half}
 
-pick_octets : (b : Bool) (k n : ℕ) → (if b then Unreadable else Octets k) ≡ Octets n → (b ≡ false) × (n ≡ k)
+pick_octets : (b : Bool) (k n : ℕ) → (if b then None else Some k) ≡ Some n → (b ≡ false) × (n ≡ k)
 pick_octets true k n e = (cc, cc)
 pick_octets false k n e = (refl, cc)
 
-pick_none : (b : Bool) (k : ℕ) → (if b then Unreadable else Octets k) ≡ Unreadable → b ≡ true
+pick_none : (b : Bool) (k : ℕ) → (if b then None else Some k) ≡ None → b ≡ true
 pick_none true k e = refl
 pick_none false k e = cc
 
 module _ (l : List ℕ) where
   -- a line that says n octets can be read, and n is their number
-  pub says_octets : (n : ℕ) → decoded_of l ≡ Octets n → (unreadable l ≡ false) × (n ≡ length (octets_in l))
+  pub says_octets : (n : ℕ) → decoded_of l ≡ Some n → (unreadable l ≡ false) × (n ≡ length (octets_in l))
   says_octets n e = pick_octets (unreadable l) (length (octets_in l)) n e
 
   -- its count of characters is right
@@ -56,6 +55,6 @@ module _ (l : List ℕ) where
   line_read e = rw e
 
   -- and to any other `unreadable`
-  pub line_unread : decoded_of l ≡ Unreadable → line_of l ≡ ascii "unreadable\n"
+  pub line_unread : decoded_of l ≡ None → line_of l ≡ ascii "unreadable\n"
   unfolding line_of
   line_unread e = rw (pick_none (unreadable l) (length (octets_in l)) e)

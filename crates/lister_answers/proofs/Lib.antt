@@ -1,4 +1,7 @@
 pub mod Texts
+pub mod Putting
 pub mod Decoding
 pub mod Bound
 pub mod OneLine
+pub mod Kept
+pub mod Ahead

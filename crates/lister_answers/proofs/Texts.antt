@@ -8,7 +8,12 @@ use Rattle.basics.specs.Basics.{bit}
 use Rattle.frame_layout.specs.Frames.{data_type, status_type, Range, Status, data_of, status_of, refuse}
 use Rattle.lister_text.specs.Texts.{ascii, line_feed, tab, comma, dash, decimal, range_text, ranges_text}
 use Rattle.lister_answers.specs.Answers.{answer_to}
-use Rattle.lister_answers.specs.Parts.{marked, tabbed, more_text}
+use Rattle.lister_answers.specs.Parts.{marked, tabbed}
+
+-- ranges, each with a comma before it
+abbrev pub more_text : List Range → List ℕ
+more_text [] = []
+more_text (r ∷ rs) = comma ∷ (range_text r ++ more_text rs)
 
 -- a range: its start with a dash, and its end
 pub range_text_lem : (r : Range) → range_text r ≡ marked r.start dash ++ decimal r.end

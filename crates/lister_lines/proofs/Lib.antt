@@ -1,4 +1,3 @@
 pub mod Kept
+pub mod Within
 pub mod Blocks
-pub mod Feeds
-pub mod Unique

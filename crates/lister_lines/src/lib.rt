@@ -1,105 +1,57 @@
-// The listing of an input (document 01, its last section), an answer to each of its lines. The input comes in blocks of any size,
-// and the answers go to a buffer that the caller writes out, so that an input of any length takes the same memory.
+// The listing of an input (document 01, its last section), an answer to each of its lines: the lister as one of the programs that answer lines,
+// whose blocks and unfinished lines are the crate program_lines's.
 #![tactic(auto)]
 
-ghost use Rattle.std.specs.Prelude.{◌≡◌, ◌-◌, ◌≤◌, ◌<◌, length, take};
-ghost use Rattle.basics.specs.Laid.{Room, Laid};
-ghost use Rattle.program_lines.specs.Feeding.{most_held};
+ghost use Rattle.std.specs.Prelude.{◌≡◌, refl, replicate};
+ghost use Rattle.frame_layout.specs.Frames.{most_octets};
+ghost use Rattle.std.proofs.Common.{ltb-true, leb-true};
 ghost use Rattle.lister_answers.specs.Answers.{most_text};
 ghost use Rattle.lister_lines.specs.Listing.{lister};
-ghost use Rattle.lister_lines.specs.Feeding.{rest_into, last_in, left_by, Onward};
+ghost use Rattle.lister_answers.proofs.Kept.{line_kept};
 
-pub const MOST_HELD: usize = lister_text::MOST_DIGITS + 1; // one more shows that a line is too long
+use frame_layout::{FrameArray, MOST_OCTETS};
+use lister_text::{MOST_DIGITS, Output};
+use program_lines::AnswersLines;
 
-// Room for what is held of an unfinished line.
-pub type LineArray = [u8; MOST_HELD];
+pub const MOST_HELD: usize = MOST_DIGITS + 1; // one more shows that a line is too long
 
-// How far a block was fed: how many of its octets were taken, how many are held of the line that they leave unfinished,
-// and the place behind the answers.
+// The lister keeps nothing between lines. It has room for a frame.
 #[derive(Drop)]
-pub struct Fed {
-    pub taken: usize,
-    pub held: usize,
-    pub at: usize,
+pub struct Lister {
+    pub frame: FrameArray,
 }
 
-// A buffer for frames.
-fn empty_frame() -> frame_layout::FrameArray {
-    [0; frame_layout::MOST_OCTETS]
-}
-
-// Feeds the octets through the first line feed of a block, and answers the line that it ends; or holds the whole block.
-fn feed_line(
-    block: &[u8],
-    line: &mut LineArray,
-    held: usize,
-    frame: &mut frame_layout::FrameArray,
-    out: &mut [u8],
-    at: usize,
-) -> Fed
-    requires { (0 < length block.now) × (held ≤ most_held lister) × Room out.old at most_text }
-    ensures { Onward block.now line.old out.old held at result line.new out.new }
-{
-    let end = lister_text::line_end(block);
-    if end == block.len() {
-        return Fed {
-            taken: end,
-            held: program_lines::hold(block, line, held),
-            at: at,
-        };
-    }
-    // A line that lies in the block is answered where it lies.
-    if held == 0 {
-        return Fed {
-            taken: end + 1,
-            held: 0,
-            at: lister_answers::answer(&block[..end], frame, out, at),
-        };
-    }
-    let held = program_lines::hold(&block[..end], line, held);
-    Fed {
-        taken: end + 1,
-        held: 0,
-        at: lister_answers::answer(basics::front(line, held), frame, out, at),
-    }
-}
-
-// Feeds a block, until it is taken whole or the output has no more room for any answer.
-pub fn feed(block: &[u8], line: &mut LineArray, held: usize, out: &mut [u8], at: usize) -> Fed
-    ensures { left_by result line.new out.new
-        ≡ rest_into (length block.now) (take held line.old) block.now out.old at }
-{
-    let mut frame = empty_frame();
-    let mut held = program_lines::held_in(line, held);
-    let mut at = at;
-    let mut taken = 0;
-    while taken < block.len() {
-        if !lister_answers::has_room(out.len(), at) {
-            return Fed {
-                taken: taken,
-                held: held,
-                at: at,
-            };
+impl Lister {
+    // Before the first line.
+    pub fn new() -> Lister
+        ensures { result.frame ≡ replicate most_octets 0 }
+    {
+        Lister {
+            frame: [0; MOST_OCTETS],
         }
-        let fed = feed_line(&block[taken..], line, held, &mut frame, out, at);
-        taken += fed.taken;
-        held = fed.held;
-        at = fed.at;
-    }
-    Fed {
-        taken: taken,
-        held: held,
-        at: at,
     }
 }
 
-// Behind the last block: the answer to a last line without its line feed.
-pub fn finish(line: &LineArray, held: usize, out: &mut [u8], at: usize) -> usize
-    ensures { Laid out.old at (last_in (length out.old - at) (take held line.now)) result out.new }
-{
-    if held == 0 {
-        return at;
+impl AnswersLines<MOST_HELD> for Lister {
+    ghost State = { Unit {0} };
+
+    ghost program = { lister };
+
+    ghost state = { λ s. tt };
+
+    const MOST_TEXT: usize = lister_answers::MOST_TEXT;
+
+    ghost MOST_TEXT = { most_text };
+
+    fn answer(&mut self, line: &[u8], out: &mut Output<'_>) {
+        lister_answers::answer(line, &mut self.frame, out);
     }
-    let mut frame = empty_frame();
-    lister_answers::answer(basics::front(line, held), &mut frame, out, at)
+
+    ghost laws = { record {
+      few = refl;
+      room = refl;
+      some = ltb-true 0 4096 refl;
+      fits = leb-true 4096 65536 refl;
+      tells = record { next = λ s l. refl; answer = λ s l. line_kept l };
+    } };
 }

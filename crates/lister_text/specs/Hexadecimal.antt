@@ -1,12 +1,10 @@
 -- A line in hexadecimal (document 01, its last section), and what decoding it answers and leaves.
 -- Assumes nothing.
-use Rattle.std.specs.Prelude.{ℕ, ◌+◌, ◌-◌, ◌*◌, ◌%◌, Bool, not, ltb, List, [], ◌∷◌, length, ◌==◌, nat_le, nat_lt, if◌then◌else◌}
+use Rattle.std.specs.Prelude.{ℕ, ◌+◌, ◌-◌, ◌*◌, ◌%◌, Bool, not, ltb, List, [], ◌∷◌, length, ◌==◌, nat_le, nat_lt, Option, Some, None, if◌then◌else◌}
 use Prim.Native.Char.{code}
 use Rattle.std.proofs.lemmas.List.Edits.{sets}
 use Rattle.basics.specs.Basics.{◌and◌, ◌or◌, all}
 use Rattle.frame_layout.specs.Frames.{most_octets}
-use Rattle.lister_text.specs.declared.Decoded.{Decoded}
-use Rattle.lister_text.specs.declared.Decoded.TheVariants.{Octets, Unreadable}
 
 -- the value of c among n characters from `first` on, the first of which has the value v; `other` if it is none of them
 abbrev pub among : ℕ → ℕ → ℕ → ℕ → ℕ → ℕ
@@ -23,6 +21,10 @@ is_digit c = nat_lt (digit_of c) 16
 -- the octet that two digits say
 abbrev pub octet_of : ℕ → ℕ → ℕ
 octet_of a b = digit_of a * 16 + digit_of b
+
+-- the octet that two characters say, unless one is no digit
+abbrev pub octet_said : ℕ → ℕ → Option ℕ
+octet_said a b = if is_digit a and is_digit b then Some (octet_of a b) else None
 
 -- the octets that the pairs of digits at the front of a line say, up to a pair with another character
 abbrev pub octets_in : List ℕ → List ℕ
@@ -42,9 +44,9 @@ bad_count n = ltb most_digits n or not (n % 2 == 0)
 abbrev pub unreadable : List ℕ → Bool
 unreadable l = bad_count (length l) or not (all is_digit l)
 
--- how many octets a line says, or that it can't be read
-abbrev pub decoded_of : List ℕ → Decoded
-decoded_of l = if unreadable l then Unreadable else Octets (length (octets_in l))
+-- how many octets a line says, unless it can't be read
+abbrev pub decoded_of : List ℕ → Option ℕ
+decoded_of l = if unreadable l then None else Some (length (octets_in l))
 
 -- what decoding a line leaves in a frame's buffer: of a right count of characters, the octets before the first that is no digit
 abbrev pub decoded_into : List ℕ → List ℕ → List ℕ

@@ -1,7 +1,7 @@
 -- Texts, as lists of the octets of their characters: what they are made of, a number in decimal, parts with marks between them, a text
 -- that is laid where it fits, and where a line ends.
 -- Assumes nothing.
-use Rattle.std.specs.Prelude.{◌≡◌, ℕ, zero, suc, ◌+◌, ◌/◌, ◌%◌, ◌<◌, ◌≤◌, Bool, true, not, List, [], ◌∷◌, ◌++◌, map, length, take, ◌==◌, nat_le, nat_lt, slice_index, if◌then◌else◌}
+use Rattle.std.specs.Prelude.{◌≡◌, ℕ, zero, suc, ◌+◌, ◌/◌, ◌%◌, ◌<◌, Bool, true, not, List, [], ◌∷◌, ◌++◌, map, length, take, ◌==◌, nat_le, nat_lt, slice_index, Option, Some, None, if◌then◌else◌}
 use Prim.Native.Char.{code}
 use Prim.Native.String.{String}
 use Prim.Native.String as string
@@ -87,8 +87,13 @@ pub record IsLine (t : List ℕ) : Type 0 where
   pub ended : t ≡ text ++ (line_feed ∷ [])
   pub once : unended text ≡ true
 
--- a place of a block: the first line feed stands there, or it is the block's end and there is none
-pub record LineEnd (block : List ℕ) (i : ℕ) : Type 0 where
-  pub within : i ≤ length block
+-- the first line feed of a block stands at a place
+pub record FeedAt (block : List ℕ) (i : ℕ) : Type 0 where
+  pub within : i < length block
   pub before : unended (take i block) ≡ true
-  pub there : i < length block → slice_index block i ≡ line_feed
+  pub there : slice_index block i ≡ line_feed
+
+-- where a line ends: at the first line feed of a block, or not within it
+abbrev pub LineEnd : List ℕ → Option ℕ → Type 0
+LineEnd block (Some i) = FeedAt block i
+LineEnd block None = unended block ≡ true

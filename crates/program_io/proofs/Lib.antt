@@ -1,5 +1,2 @@
-pub mod Fewer
-pub mod Feeds
-pub mod Texts
 pub mod Known
-pub mod Runs
+pub mod Texts

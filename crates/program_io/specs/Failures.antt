@@ -1,16 +1,32 @@
 -- How many lines were answered, as a program counts them where it writes, and what it says where a read or a write fails. What a write
 -- leaves outside is said where that is known (Rattle.std.specs.Io.KnownBytes).
 -- Assumes nothing.
-use Rattle.std.specs.Prelude.{◌≡◌, ◌≢◌, ℕ, ◌+◌, ◌%◌, ◌^◌, ◌<◌, ◌≤◌, List, ◌++◌, length, take, ℤ, pos, negsuc, ◌==◌, slice_index}
+use Rattle.std.specs.Prelude.{◌≡◌, ◌≢◌, ℕ, ◌+◌, ◌%◌, ◌^◌, ◌<◌, ◌≤◌, List, ◌++◌, length, take, ℤ, pos, negsuc, Result, Ok, Err, is_ok, ◌==◌, slice_index}
 use Prim.Native.Char.{code}
 use Rattle.lister_text.specs.Texts.{ascii, line_feeds, decimal}
-use Rattle.program_io.specs.declared.Written.{Written}
+use Rattle.program_io.specs.declared.Part.{Part}
+use Rattle.program_io.specs.declared.Short.{Short}
+
+-- how many of some octets were taken where they were written out
+abbrev pub taken : List ℕ → Result Unit Short → ℕ
+taken octets (Ok u) = length octets
+taken octets (Err short) = short.octets
+
+-- how many of an output's octets were
+abbrev pub written : List ℕ → Result ℕ Part → ℕ
+written octets (Ok lines) = length octets
+written octets (Err part) = part.octets
+
+-- how many lines were answered then
+abbrev pub lines_in : Result ℕ Part → ℕ
+lines_in (Ok lines) = lines
+lines_in (Err part) = part.lines
 
 -- octets are written, with so many lines before: how many octets went out, whether all did, and the lines with theirs (64 bits of them)
-pub record Writes (octets : List ℕ) (before : ℕ) (w : Written) : Type 0 where
-  pub within : w.octets ≤ length octets
-  pub whole : w.whole ≡ (w.octets == length octets)
-  pub lines : w.lines ≡ (before + line_feeds (take w.octets octets)) % 2 ^ 64
+pub record Writes (octets : List ℕ) (before : ℕ) (r : Result ℕ Part) : Type 0 where
+  pub within : written octets r ≤ length octets
+  pub whole : is_ok r ≡ (written octets r == length octets)
+  pub lines : lines_in r ≡ (before + line_feeds (take (written octets r) octets)) % 2 ^ 64
 
 -- ---- what is said
 

@@ -1,7 +1,8 @@
--- How often a program reads on.
+-- What one read brings.
 -- Assumes nothing.
-use Rattle.std.specs.Prelude.{ℕ, ◌-◌, Bool, if◌then◌else◌}
+use Rattle.std.specs.Prelude.{ℕ, ℤ, Result, Ok, Err}
 
--- one read less, and none where there is nothing more to read
-abbrev pub reads_left : ℕ → Bool → ℕ
-reads_left reads more = if more then reads - 1 else 0
+-- how many octets came: none where the read failed
+abbrev pub came : Result ℕ ℤ → ℕ
+came (Ok n) = n
+came (Err e) = 0

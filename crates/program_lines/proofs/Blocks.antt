@@ -1,6 +1,7 @@
 -- An input that is fed in blocks of any sizes, into an output of any room before each call, says what its lines are answered.
 -- Assumes nothing.
 use mathlib.Core.Path.{◌≡◌, refl, sym, ◌∙◌, ap, ap₂}
+use mathlib.Core.Bool.{true}
 use mathlib.Core.List.{List, [], ◌∷◌, ◌++◌, append_assoc, append-nil}
 use Prim.Native.Nat.{ℕ, ◌-◌}
 use lib.Dec.{eqb}
@@ -80,3 +81,16 @@ module _ {S : Type 0} (p : Answering S) (tells : FrontTells p) where
   -- Whatever the blocks and the rooms were, what was said and the last line's answer are the answers to the input's lines.
   pub calls_answer : CallsAnswer p
   calls_answer s s' input t last cs = calls_told cs ∙ told_answers s input
+
+  -- ---- a last line
+
+  -- the line feed that it lacks; an empty one is none
+  pub ending : List ℕ → List ℕ
+  ending [] = []
+  ending (c ∷ cs) = line_feed ∷ []
+
+  -- fed that, it is answered as a last line is
+  pub last_said : (room : ℕ) (s : S) (last : List ℕ) → room_for p room ≡ true → (feeding p room s last (ending last)).said ≡ last_of p s last
+  unfolding ending
+  last_said room s [] r = refl
+  last_said room s (c ∷ cs) r = rw r (append-nil (p.answer s (c ∷ cs)))

@@ -8,13 +8,13 @@ use native.Mathlib.Nat.{add-zero, add_assoc}
 use native.Mathlib.Numerals.{add-one}
 use native.Mathlib.Omega.{arith}
 use lib.Dec.{eqb}
-use lib.ListN.{length, take, drop, length-append, length-take, length-drop, drop_of_length-le}
+use lib.ListN.{length, take, drop, length-append, length-take, length-drop}
 use lib.Seq.{sets, append_snoc, take_all, length-take-le, split_at}
 use borrow.Author.Tests.{leb-true, le-leb, not-true}
 use Rattle.basics.proofs.Choices.{and_true}
 use Rattle.basics.specs.Laid.{Laid}
 use Rattle.basics.proofs.Laying.{laid_length, sets_append}
-use Rattle.lister_text.specs.Texts.{line_feed, unended, LineEnd}
+use Rattle.lister_text.specs.Texts.{line_feed, unended, FeedAt}
 use Rattle.lister_text.proofs.Cases.{true_or, below_or}
 use Rattle.program_lines.specs.Lines.{Answering}
 use Rattle.program_lines.specs.Feeding.{most_held, kept, FrontTells, room_for, Feeding, saying, feeding, Left, leaving}
@@ -90,26 +90,22 @@ module _ {S : Type 0} (p : Answering S) where
 
   -- ---- one line of a block, into an output that has room for any answer
 
-  module _ (block line out : List ℕ) (s : S) (at end : ℕ) (ends : LineEnd block end) (few : length line ≤ most_held p) (room : room_for p (length out - at) ≡ true) where
+  module _ (block line out : List ℕ) (s : S) (at : ℕ) (few : length line ≤ most_held p) (room : room_for p (length out - at) ≡ true) where
     -- no line feed: the block is held
-    pub holds_on : length block ≤ end → (n : ℕ)
-        → leaving n out at (feeding p (length out - at) s line block)
-        ≡ leaving n out at (feeding p (length out - at) s (kept p (line ++ take end block)) (drop end block))
-    holds_on whole n =
-        let all = take_all end block whole in
-        let none : drop end block ≡ [] = drop_of_length-le block {i = end} whole in
-        let plain : unended block ≡ true = ap unended (sym all) ∙ ends.before in
-        rw (none, all) (ap (λ (b : List ℕ). leaving n out at (feeding p (length out - at) s line b)) (sym (append-nil block)) ∙ ap (leaving n out at) (fed_plain (length out - at) s line block [] room few plain))
+    pub holds_on : unended block ≡ true → (n : ℕ)
+        → leaving n out at (feeding p (length out - at) s line block) ≡ leaving n out at (feeding p (length out - at) s (kept p (line ++ block)) [])
+    holds_on plain n =
+        ap (λ (b : List ℕ). leaving n out at (feeding p (length out - at) s line b)) (sym (append-nil block)) ∙ ap (leaving n out at) (fed_plain (length out - at) s line block [] room few plain)
 
     -- a line feed: the answer to the line that it ends is laid
-    pub answers_on : FrontTells p → {out' : List ℕ} {at' : ℕ} (s' : S) → end < length block → s' ≡ p.next s (line ++ take end block)
+    pub answers_on : FrontTells p → {end : ℕ} → FeedAt block end → {out' : List ℕ} {at' : ℕ} (s' : S) → s' ≡ p.next s (line ++ take end block)
         → Laid out at (p.answer s (line ++ take end block)) at' out' → (n : ℕ)
         → leaving n out at (feeding p (length out - at) s line block) ≡ leaving n out' at' (feeding p (length out' - at') s' [] (drop (end + 1) block))
-    answers_on tells {out'} {at'} s' inside next said n =
+    answers_on tells {end} ends {out'} {at'} s' next said n =
         let t = p.answer s (line ++ take end block) in
         let rest = drop (end + 1) block in
         let cut : block ≡ take end block ++ (line_feed ∷ rest)
-        = split_at block end 0 inside ∙ ap₂ (λ (c k : ℕ). take end block ++ (c ∷ drop k block)) (ends.there inside) (sym (add-one end)) in
+        = split_at block end 0 ends.within ∙ ap₂ (λ (c k : ℕ). take end block ++ (c ∷ drop k block)) ends.there (sym (add-one end)) in
         let left : length out' - at' ≡ length out - at - length t = omega (arith, laid_length said, said.behind) in
         ap (λ (b : List ℕ). leaving n out at (feeding p (length out - at) s line b)) cut
         ∙ ap (leaving n out at) (fed_line tells (length out - at) s line (take end block) rest room few ends.before)
@@ -155,21 +151,6 @@ module _ {S : Type 0} (p : Answering S) where
     where
       one_more : (rest : List ℕ) → length rest ≤ length cs → drop (length cs - length rest) cs ≡ rest → drop (length (c ∷ cs) - length rest) (c ∷ cs) ≡ rest
       one_more rest h e = ap (λ (k : ℕ). drop k (c ∷ cs)) (let more : length (c ∷ cs) - length rest ≡ suc (length cs - length rest) = omega arith in more) ∙ e
-
-  -- the answers fit into the room, where none is longer than said
-  pub said_fits : ((s : S) (l : List ℕ) → length (p.answer s l) ≤ p.most_text) → (room : ℕ) (s : S) (line block : List ℕ)
-      → length (feeding p room s line block).said ≤ room
-  said_fits most room s line [] = omega arith
-  said_fits most room s line (c ∷ cs) =
-      true_or (room_for p room)
-      (λ r.
-      true_or (eqb c line_feed)
-      (λ e.
-      let t = p.answer s line in
-      let after = (feeding p (room - length t) (p.next s line) [] cs).said in
-      rw (r, e) (omega (arith, length-append t after, said_fits most (room - length t) (p.next s line) [] cs, most s line, leb-true p.most_text room r)))
-      (λ e. rw (r, e) (said_fits most room s (kept p (line ++ (c ∷ []))) cs)))
-      (λ r. rw r (omega arith))
 
   -- what a caller learns: with room and octets, some are taken, and no more than there are
   pub takes_some : (block line out : List ℕ) (s : S) (at : ℕ) {w : Left S} → w ≡ leaving (length block) out at (feeding p (length out - at) s line block)

@@ -1,3 +1,4 @@
 pub mod Blocks
 pub mod Feeds
 pub mod Fronts
+pub mod Unique

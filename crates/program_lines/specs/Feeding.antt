@@ -2,9 +2,12 @@
 -- between. proofs/Blocks.antt proves that what is said so is what is said to the whole input (`CallsAnswer`), of every program whose lines are told by
 -- what is held of them.
 -- Assumes nothing.
-use Rattle.std.specs.Prelude.{Bool, not, ◌≡◌, List, [], ◌∷◌, ◌++◌, ℕ, suc, ◌+◌, ◌-◌, ◌≤◌, leb, eqb, length, take, if◌then◌else◌}
+use Rattle.std.specs.Prelude.{Bool, not, ◌≡◌, List, [], ◌∷◌, ◌++◌, ℕ, suc, ◌+◌, ◌-◌, ◌≤◌, ◌<◌, leb, eqb, length, take, drop, if◌then◌else◌}
 use Rattle.std.proofs.lemmas.List.Edits.{sets}
 use Rattle.lister_text.specs.Texts.{line_feed}
+use Rattle.lister_text.specs.Outputs.{HasRoom, Lays}
+use Rattle.lister_text.specs.declared.Output.{Output}
+use Rattle.program_lines.specs.declared.Line.{Line}
 use Rattle.program_lines.specs.Lines.{Answering, lines_of, answers}
 
 -- the most octets that are held of an unfinished line: one more shows that it is too long
@@ -39,6 +42,11 @@ saying t f = record { said = t ++ f.said; state = f.state; line = f.line; rest =
 abbrev pub last_of : {S : Type 0} → Answering S → S → List ℕ → List ℕ
 last_of p s [] = []
 last_of p s (c ∷ cs) = p.answer s (c ∷ cs)
+
+-- the state that such a line leaves
+abbrev pub last_state : {S : Type 0} → Answering S → S → List ℕ → S
+last_state p s [] = s
+last_state p s (c ∷ cs) = p.next s (c ∷ cs)
 
 -- octets fed one after another behind an unfinished line, while the output has room for any answer
 abbrev pub feeding : {S : Type 0} → Answering S → ℕ → S → List ℕ → List ℕ → Feeding S
@@ -86,7 +94,54 @@ leaving n out at f = record {
   out = sets out at f.said;
 }
 
--- more of a line is held in a buffer, up to the buffer's end
-pub record Holds (line : List ℕ) (held : ℕ) (part : List ℕ) (held' : ℕ) (line' : List ℕ) : Type 0 where
-  pub within : held' ≤ length line
-  pub front : take held' line' ≡ take (length line) (take held line ++ part)
+-- more of a line is held in a buffer of m octets, up to the buffer's end
+abbrev pub Holds : ℕ → List ℕ → List ℕ → List ℕ → Type 0
+Holds m held part held' = held' ≡ take m (held ++ part)
+
+-- ---- a program as the code has it
+
+-- what is held of a line tells what a program answers, and for any answer a program's output has room
+pub record Laws {S : Type 0} (p : Answering S) (held most : ℕ) : Type 0 where
+  pub few : most_held p ≡ held
+  pub room : p.most_text ≡ most
+  pub some : 0 < most
+  pub fits : most ≤ 65536
+  pub tells : FrontTells p
+
+-- a line was answered on an output with room for any answer, which it stays within
+pub record Said {S : Type 0} (p : Answering S) (s : S) (line : List ℕ) (out : Output) (s' : S) (out' : Output) : Type 0 where
+  pub loan : out'.octets.ghost_name ≡ out.octets.ghost_name
+  pub lays : HasRoom out p.most_text → Lays out (p.answer s line) out'
+  pub next : HasRoom out p.most_text → s' ≡ p.next s line
+  pub within : out.at ≤ length out.octets.now → out'.at ≤ length out'.octets.now
+
+-- what the code leaves that took so many octets: the unfinished line, the state and the output
+abbrev pub left_by : {S : Type 0} {N : ℕ} → ℕ → Line N → S → Output → Left S
+left_by taken line s out = record { taken = taken; held = line.held; line = take line.held line.octets; state = s; at = out.at; out = out.octets.now }
+
+-- what is left where octets, the last of a block of n, are fed behind an unfinished line
+abbrev pub rest_into : {S : Type 0} {N : ℕ} → Answering S → ℕ → S → Line N → List ℕ → Output → Left S
+rest_into p n s line octets out = leaving n out.octets.now out.at (feeding p (length out.octets.now - out.at) s (take line.held line.octets) octets)
+
+-- a block was fed behind an unfinished line
+pub record Fed {S : Type 0} {N : ℕ} (p : Answering S) (s : S) (line : Line N) (block : List ℕ) (out : Output) (taken : ℕ) (s' : S) (line' : Line N) (out' : Output) : Type 0 where
+  pub loan : out'.octets.ghost_name ≡ out.octets.ghost_name
+  pub left : left_by taken line' s' out' ≡ rest_into p (length block) s line block out
+  pub within : out.at ≤ length out.octets.now → out'.at ≤ length out'.octets.now
+
+-- feeding a block is feeding the part that the code took of it, and then the rest
+pub record Onward {S : Type 0} {N : ℕ} (p : Answering S) (s : S) (line : Line N) (block : List ℕ) (out : Output) (taken : ℕ) (s' : S) (line' : Line N) (out' : Output) : Type 0 where
+  pub loan : out'.octets.ghost_name ≡ out.octets.ghost_name
+  pub same : (n : ℕ) → rest_into p n s line block out ≡ rest_into p n s' line' (drop taken block) out'
+  pub some : 0 < taken
+  pub part : taken ≤ length block
+  pub few : line'.held ≤ N
+  pub within : line'.held ≤ length line'.octets
+  pub inside : out.at ≤ length out.octets.now → out'.at ≤ length out'.octets.now
+
+-- a last line without its line feed was answered where there was room for any answer; an empty one is none
+pub record Finished {S : Type 0} (p : Answering S) (s : S) (line : List ℕ) (out : Output) (s' : S) (line' : List ℕ) (out' : Output) : Type 0 where
+  pub lays : Lays out (if room_for p (length out.octets.now - out.at) then last_of p s line else []) out'
+  pub next : s' ≡ (if room_for p (length out.octets.now - out.at) then last_state p s line else s)
+  pub left : line' ≡ (if room_for p (length out.octets.now - out.at) then [] else line)
+  pub within : out.at ≤ length out.octets.now → out'.at ≤ length out'.octets.now

@@ -7,5 +7,4 @@ use Rattle.lister_answers.proofs.put_frame.Goals as goal
 pub put_status-requires : goal.put_status-requires
 put_status-requires c =
     let frame = c.args.frame.now in
-    let is = sym (ap (reading_of frame) c.in-Status.is) ∙ c.read.ensures in
-    (held_first frame c.in-Status.head is, rw (sym is) at c.requires)
+    held_first frame c.in-Status.head (sym (ap (reading_of frame) c.in-Status.is) ∙ c.read.ensures)

@@ -1,38 +1,28 @@
--- `put_ranges`: the first range, and the others behind it. Assumes nothing.
-use Rattle.std.proofs.Common.{◌≡◌, ◌++◌, sym, ◌∙◌, ap}
-use Rattle.basics.proofs.Laying.{laid_then, room_first, room_then}
-use Rattle.frame_reader.specs.Answers.{cursor_of, next_in, ranges_from}
-use Rattle.frame_reader.proofs.Walk.{Went, went}
-use Rattle.lister_text.specs.Texts.{range_text, ranges_text}
-use Rattle.lister_answers.specs.Parts.{more_text}
-use Rattle.lister_answers.proofs.Texts.{ranges_text_lem}
+-- `put_ranges`: the first range, and the others behind it, each with a comma. Assumes nothing.
+use Rattle.std.proofs.Common.{◌≡◌, [], ◌∷◌, ◌++◌, ap, ◌∙◌}
+use Rattle.frame_layout.specs.Types.{range_of}
+use Rattle.frame_view.specs.Views.{ahead_of}
+use Rattle.lister_text.specs.Texts.{ascii, comma, range_text, ranges_text}
+use Rattle.lister_text.proofs.Laying.{puts_text, puts_then}
+use Rattle.lister_answers.proofs.Texts.{more_text, ranges_text_lem}
+use Rattle.lister_answers.proofs.Putting.{Leaves, leaves_all, leaves_on, leaves_none}
 use Rattle.lister_answers.proofs.put_ranges.Goals as goal
-use Rattle.lister_answers.proofs.put_ranges.Goals.{In-Range}
 
--- a range was answered
-here : (c : In-Range) → Went c.args.frame.now (cursor_of c.args.head) c.in-Range.start c.in-Range.end c.in-Range.rest
-here c =
-    let frame = c.args.frame.now in
-    went frame (cursor_of c.args.head) (sym (c.next_range-step.ensures ∙ ap (next_in frame) c.first_range-first.ensures) ∙ c.in-Range.is)
+pub returns-in_default : goal.returns-in_default
+returns-in_default c = rw c.in_default.ensures.steps.0 (puts_text (ascii "none") c.text.ensures)
 
--- so that the text is that range and those behind it
-text_here : (c : In-Range)
-    → ranges_text (ranges_from c.args.frame.now (cursor_of c.args.head))
-    ≡ range_text (record { start = c.in-Range.start; end = c.in-Range.end }) ++ more_text (ranges_from c.args.frame.now c.in-Range.rest)
-text_here c = ap ranges_text (here c).split ∙ ranges_text_lem (record { start = c.in-Range.start; end = c.in-Range.end }) (ranges_from c.args.frame.now c.in-Range.rest)
+pub loop-range-init : goal.loop-range-init
+loop-range-init c =
+    let o = c.args.out.now in
+    let rest = ahead_of c.next.new.self in
+    let first = range_of c.in-Some.first in
+    let whole : ranges_text (ahead_of c.args.ranges) ≡ range_text first ++ more_text rest = ap ranges_text c.in-Some.ensures.steps ∙ ranges_text_lem first rest in
+    let start : Leaves o (ranges_text (ahead_of c.args.ranges)) o (range_text first ++ more_text rest) = rw whole (leaves_all o (range_text first ++ more_text rest)) in
+    rw c.into_iter-range-iterator.ensures.into_iter_gives (leaves_on start c.put_range.ensures)
 
-pub put_range-at-requires : goal.put_range-at-requires
-put_range-at-requires c =
-    room_first c.args.out.now c.args.at (range_text (record { start = c.in-Range.start; end = c.in-Range.end })) (more_text (ranges_from c.args.frame.now c.in-Range.rest))
-    (rw (text_here (goal.at.put_range-at-requires c).In-Range) at c.requires.1)
-
-pub put_more-requires : goal.put_more-requires
-put_more-requires c =
-    let k = (goal.at.put_more-requires c).In-Range in (
-      (here k).held c.requires.0,
-      room_then (range_text (record { start = c.in-Range.start; end = c.in-Range.end })) (more_text (ranges_from c.args.frame.now c.in-Range.rest))
-          c.put_range-at.ensures (rw (text_here k) at c.requires.1),
-    )
+pub loop-range-preserved : goal.loop-range-preserved
+loop-range-preserved c =
+    leaves_on (rw c.in-Some-range.ensures.steps at c.loop-range.invariant) (puts_then (puts_text (comma ∷ []) c.octet.ensures) c.put_range-in-loop-range.ensures)
 
 pub returns : goal.returns
-returns c = rw (text_here (goal.at.returns c).In-Range) (laid_then c.put_range-at.ensures c.put_more.ensures)
+returns c = leaves_none (rw c.in-None.ensures.steps.0 at c.loop-range.invariant)

@@ -1,11 +1,12 @@
 -- `lay_failed`: its parts one behind another. Assumes nothing.
-use Rattle.std.proofs.Common.{take, arith, length-take, rules}
+use Rattle.std.proofs.Common.{take}
+use Rattle.lister_text.specs.Texts.{ascii, decimal}
+use Rattle.lister_text.proofs.Laying.{puts_text, puts_then}
 use Rattle.program_io.specs.Failures.{most_word}
-use Rattle.program_io.proofs.Texts.{failed_laid}
 use Rattle.program_io.proofs.lay_failed.Goals as goal
 
 pub returns : goal.returns
 returns c =
-    let what = c.args.what.now in
-    failed_laid (take most_word what) c.args.error (search rules) c.requires (omega (arith, length-take most_word what)) (search rules)
-    c.lay_text-at.ensures (rw c.front.ensures at c.lay_text-at-2.ensures) c.lay_text-at-3.ensures c.lay_decimal.ensures
+    let what = take most_word c.args.what.now in
+    puts_then (puts_then (puts_then (puts_text (ascii "; ") c.text.ensures) (puts_text what (rw c.front.ensures at c.text-2.ensures)))
+    (puts_text (ascii " failed, error ") c.text-3.ensures)) (puts_text (decimal c.args.error) c.decimal.ensures)

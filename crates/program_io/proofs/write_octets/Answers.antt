@@ -9,8 +9,8 @@ pub loop-done-preserved : goal.loop-done-preserved
 loop-done-preserved g c =
     let l = c.loop-done in
     let octets = c.args.octets.now in
-    let taken = c.write_once-taken in
-    let n = taken.result.octets in (
-      omega (arith, taken.ensures.within, length-drop l.done octets),
-      rw (take-add l.done n octets) (appends_then _ _ _ (take l.done octets) (take n (drop l.done octets)) l.invariant.1 (rw (rest_part octets l.done) at taken.ensures.bytes)),
+    let n = c.in-Ok.n in
+    let wrote = c.in-Ok.ensures in (
+      omega (arith, wrote.bound, length-drop l.done octets),
+      rw (take-add l.done n octets) (appends_then _ _ _ (take l.done octets) (take n (drop l.done octets)) l.invariant.1 (rw (rest_part octets l.done) at wrote.bytes)),
     )
