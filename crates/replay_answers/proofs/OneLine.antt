@@ -16,7 +16,7 @@ use Rattle.replay_states.specs.Lines.{line_with}
 use Rattle.replay_states.proofs.OneLine.{line_with_lem}
 use Rattle.replay_answers.specs.declared.Answer.{Answer}
 use Rattle.replay_answers.specs.declared.Answer.TheVariants.{Ok, Unopened, Unreadable, Lost, Sent, Freed, Taken, Room, Refused}
-use Rattle.replay_answers.specs.Answers.{answer_fields, hex_digit, hex_text, frame_fields}
+use Rattle.replay_answers.specs.Answers.{answer_fields, refused_fields, hex_digit, hex_text, frame_fields}
 
 -- no field of an answer has a line feed
 answer_plain : (a : Answer) → all unended (answer_fields a) ≡ true
@@ -42,6 +42,9 @@ hex_plain (o ∷ os) = unended_cons (hex_digit (o / 16)) (hex_digit (o % 16) ∷
 
 pub answer_line : (a : Answer) → IsLine (line_with (answer_fields a))
 answer_line a = line_with_lem (answer_fields a) (answer_plain a)
+
+pub refused_line : (n : ℕ) → IsLine (line_with (refused_fields n))
+refused_line n = line_with_lem (refused_fields n) (rw (unended_decimal n))
 
 pub frame_line : (octets : List ℕ) → IsLine (line_with (frame_fields octets))
 frame_line octets = line_with_lem (frame_fields octets) (rw (hex_plain octets))

@@ -1,4 +1,4 @@
-// The lines that answer calls, each laid in an output that has room for any line, and else not at all. A line ends within the
+// The lines that answer calls, each laid on an output that has room for any line, and else not at all. A line ends within the
 // output: none is cut.
 #![tactic(auto)]
 
@@ -6,16 +6,14 @@ ghost use Rattle.std.specs.Prelude.{◌≡◌, [], ◌∷◌, ◌+◌, ◌*◌, 
 ghost use Rattle.lister_text.specs.Texts.{tab, parted};
 ghost use Rattle.replay_parts.specs.Parts.{Puts};
 ghost use Rattle.replay_states.specs.Lines.{line_with, most_fields, Said};
-ghost use Rattle.replay_answers.specs.Answers.{answer_fields, hex_digit as «hex_digit_of», hex_text, frame_fields};
+ghost use Rattle.replay_answers.specs.Answers.{answer_fields, answer_by, hex_digit as «hex_digit_of», hex_text, frame_fields, most_frame};
 
-use lister_text::TAB;
+use lister_text::Output;
+use refusal::Refusal;
 
-const MOST_ROOM: usize = 2048; // of a status
+const MOST_FRAME: usize = 2048; // of a frame's octets in a line: all that a status is given room for
 
-// A buffer that is lent to a status.
-pub type StatusBuffer = [u8; MOST_ROOM];
-
-// An answer of one or a few numbers.
+// An answer of one or a few numbers: it is what a line prints, so a refusal is one of them, and `Result<Answer, Refusal>` becomes it.
 #[derive(Drop)]
 pub enum Answer {
     Ok,
@@ -26,49 +24,57 @@ pub enum Answer {
     Freed { freed: u32, lost: u32, last: bool },
     Taken { number: u32, pdcp: u32, size: u32 },
     Room(u32),
+    // Any number, as the line has it: a Refusal would ask more of callers than the line's definition does.
     Refused(u32),
+}
+
+// What a call answers, if it isn't refused.
+impl From<Result<Answer, Refusal>> for Answer {
+    ghost from_gives = { λ said answer. answer ≡ answer_by said };
+
+    fn from(said: Result<Answer, Refusal>) -> Answer {
+        match said {
+            Ok(answer) => answer,
+            Err(refusal) => Answer::Refused(u32::from(refusal)),
+        }
+    }
 }
 
 // ---- the answers of one or a few numbers
 
 // What accepting a status counted.
-fn put_freed(freed: u32, lost: u32, last: bool, out: &mut [u8], at: usize) -> usize
-    ensures { Puts out.old at (parted tab (answer_fields (Answer.Freed freed lost last))) result out.new 49 }
+fn put_freed(freed: u32, lost: u32, last: bool, out: &mut Output<'_>)
+    ensures { Puts out.old (parted tab (answer_fields (Answer.Freed freed lost last))) out.new 49 }
 {
-    let at = replay_parts::put_named(b"freed", freed, out, at);
-    let at = replay_parts::put_named(b"\tlost", lost, out, at);
-    replay_parts::put_named(b"\tfinal", basics::flag(last), out, at)
-}
-
-// A packet that was taken.
-fn put_taken(number: u32, pdcp: u32, size: u32, out: &mut [u8], at: usize) -> usize
-    ensures { Puts out.old at (parted tab (answer_fields (Answer.Taken number pdcp size))) result out.new 38 }
-{
-    let at = replay_parts::put_named(b"taken", number, out, at);
-    let at = replay_parts::put_behind(TAB, pdcp, out, at);
-    replay_parts::put_behind(TAB, size, out, at)
+    replay_parts::put_named(b"freed", &[freed], out);
+    replay_parts::put_named(b"\tlost", &[lost], out);
+    replay_parts::put_named(b"\tfinal", &[u32::from(last)], out);
 }
 
 // The fields of an answer.
-fn put_answer(answer: Answer, out: &mut [u8], at: usize) -> usize
-    ensures { Puts out.old at (parted tab (answer_fields answer)) result out.new most_fields }
+fn put_answer(answer: Answer, out: &mut Output<'_>)
+    ensures { Puts out.old (parted tab (answer_fields answer)) out.new most_fields }
 {
     match answer {
-        Answer::Ok => lister_text::lay_text(b"ok", out, at),
-        Answer::Unopened => lister_text::lay_text(b"unopened", out, at),
-        Answer::Unreadable => lister_text::lay_text(b"unreadable", out, at),
-        Answer::Lost(n) => replay_parts::put_named(b"lost", n, out, at),
-        Answer::Sent(n) => replay_parts::put_named(b"sent", n, out, at),
-        Answer::Freed { freed, lost, last } => put_freed(freed, lost, last, out, at),
-        Answer::Taken { number, pdcp, size } => put_taken(number, pdcp, size, out, at),
-        Answer::Room(n) => replay_parts::put_named(b"room", n, out, at),
-        Answer::Refused(n) => replay_parts::put_named(b"refused", n, out, at),
+        Answer::Ok => out.text(b"ok"),
+        Answer::Unopened => out.text(b"unopened"),
+        Answer::Unreadable => out.text(b"unreadable"),
+        Answer::Lost(n) => replay_parts::put_named(b"lost", &[n], out),
+        Answer::Sent(n) => replay_parts::put_named(b"sent", &[n], out),
+        Answer::Freed { freed, lost, last } => put_freed(freed, lost, last, out),
+        Answer::Taken { number, pdcp, size } => replay_parts::put_named(
+            b"taken",
+            &[number, pdcp, size],
+            out,
+        ),
+        Answer::Room(n) => replay_parts::put_named(b"room", &[n], out),
+        Answer::Refused(n) => replay_parts::put_named(b"refused", &[n], out),
     }
 }
 
 // ---- a frame
 
-// The digit of a number below 16.
+// The digit of a number below 16. By hand: `char::from_digit` answers an Option of a char, to be unwrapped and cast back, no plainer.
 fn hex_digit(n: u8) -> u8
     requires { n < 16 }
     ensures { result ≡ «hex_digit_of» n }
@@ -77,54 +83,48 @@ fn hex_digit(n: u8) -> u8
 }
 
 // An octet in lower-case hexadecimal.
-fn put_hex(octet: u8, out: &mut [u8], at: usize) -> usize
-    ensures { Puts out.old at (hex_text (octet ∷ [])) result out.new 2 }
+fn put_hex(octet: u8, out: &mut Output<'_>)
+    ensures { Puts out.old (hex_text (octet ∷ [])) out.new 2 }
 {
-    let at = replay_parts::put_octet(hex_digit(octet / 16), out, at);
-    replay_parts::put_octet(hex_digit(octet % 16), out, at)
+    out.octet(hex_digit(octet / 16));
+    out.octet(hex_digit(octet % 16));
 }
 
 // Octets in lower-case hexadecimal.
-fn put_octets(octets: &[u8], out: &mut [u8], at: usize) -> usize
-    ensures { Puts out.old at (hex_text octets.now) result out.new (length octets.now * 2) }
+fn put_octets(octets: &[u8], out: &mut Output<'_>)
+    ensures { Puts out.old (hex_text octets.now) out.new (length octets.now * 2) }
 {
-    let mut at = at;
-    let mut i = 0;
-    while i < octets.len() {
-        at = put_hex(octets[i], out, at);
-        i += 1;
+    for octet in octets {
+        put_hex(*octet, out);
     }
-    at
 }
 
-// The fields of a frame: so many octets at the front of a buffer.
-fn put_frame(octets: &[u8], n: usize, out: &mut [u8], at: usize) -> usize
-    ensures { Puts out.old at (parted tab (frame_fields (take n octets.now))) result out.new (6 + length octets.now * 2) }
+// The fields of a frame.
+fn put_frame(frame: &[u8], out: &mut Output<'_>)
+    ensures { Puts out.old (parted tab (frame_fields frame.now)) out.new (6 + length frame.now * 2) }
 {
-    let at = lister_text::lay_text(b"frame\t", out, at);
-    put_octets(basics::front(octets, n), out, at)
+    out.text(b"frame\t");
+    put_octets(frame, out);
 }
 
 // ---- lines
 
 // The line of an answer.
-pub fn lay_answer(answer: Answer, out: &mut [u8], at: usize) -> usize
-    ensures { Said out.old at (line_with (answer_fields answer)) result out.new }
+pub fn lay_answer(answer: Answer, out: &mut Output<'_>)
+    ensures { Said out.old (line_with (answer_fields answer)) out.new }
 {
-    if !replay_states::has_room(out.len(), at) {
-        return at;
+    if replay_states::has_room(out) {
+        put_answer(answer, out);
+        replay_parts::put_end(out);
     }
-    let at = put_answer(answer, out, at);
-    replay_parts::put_end(out, at)
 }
 
-// The line of a frame.
-pub fn lay_frame(octets: &StatusBuffer, n: usize, out: &mut [u8], at: usize) -> usize
-    ensures { Said out.old at (line_with (frame_fields (take n octets.now))) result out.new }
+// The line of a frame: no more than 2,048 octets of it.
+pub fn lay_frame(frame: &[u8], out: &mut Output<'_>)
+    ensures { Said out.old (line_with (frame_fields (take most_frame frame.now))) out.new }
 {
-    if !replay_states::has_room(out.len(), at) {
-        return at;
+    if replay_states::has_room(out) {
+        put_frame(basics::front(frame, MOST_FRAME), out);
+        replay_parts::put_end(out);
     }
-    let at = put_frame(octets, n, out, at);
-    replay_parts::put_end(out, at)
 }

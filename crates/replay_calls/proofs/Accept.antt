@@ -1,19 +1,19 @@
 -- The field of accept: octets behind a tab are one field if they can be read at all, for a tab is no digit.
 -- Assumes nothing.
-use Rattle.std.specs.Prelude.{if◌then◌else◌}
+use Rattle.std.specs.Prelude.{Some, None, if◌then◌else◌}
 use mathlib.Core.Path.{◌≡◌, refl, ap}
 use mathlib.Core.Bool.{Bool, true, false, not}
 use mathlib.Core.List.{List, [], ◌∷◌}
-use Prim.Native.Nat.{ℕ}
+use Prim.Native.Nat.{ℕ, ◌≤◌}
+use native.Mathlib.Omega.{arith}
 use lib.Dec.{eqb}
 use lib.ListN.{length, drop}
 use borrow.Author.Tests.{eqb-true}
 use Rattle.basics.specs.Basics.{◌and◌, ◌or◌, all}
 use Rattle.lister_text.specs.Texts.{tab}
-use Rattle.lister_text.specs.Hexadecimal.{digit_of, is_digit, bad_count, octets_in, decoded_of, decoded_into}
-use Rattle.lister_text.specs.declared.Decoded as D
-use Rattle.replay_calls.specs.Calls.{fields_in, first_field, tabbed_fields, framed, accept_of, decoded_behind}
-use Rattle.replay_calls.proofs.Fields.{fields_split}
+use Rattle.lister_text.specs.Hexadecimal.{digit_of, is_digit, bad_count, octets_in, decoded_of}
+use Rattle.replay_calls.specs.Calls.{fields_in, first_field, tabbed_fields, framed, accept_of}
+use Rattle.replay_calls.proofs.Fields.{fields_split, behind, behind_one}
 
 -- octets are one field, or several and no digits
 data Shape (cs : List ℕ) : Type 0 where
@@ -40,10 +40,10 @@ shape (c ∷ cs) = by (eqb c tab) refl (shape cs)
     by false e (one p) = one (rw (e, p))
     by false e (more f g fs p q) = more (c ∷ f) g fs (rw (e, p)) (none_and (is_digit c) (all is_digit cs) q)
 
-none_read : (cs : List ℕ) → all is_digit cs ≡ false → decoded_of cs ≡ D.TheVariants.Unreadable
+none_read : (cs : List ℕ) → all is_digit cs ≡ false → decoded_of cs ≡ None
 none_read cs e = by (bad_count (length cs))
   where
-    by : (b : Bool) → (if b or not (all is_digit cs) then D.TheVariants.Unreadable else D.TheVariants.Octets (length (octets_in cs))) ≡ D.TheVariants.Unreadable
+    by : (b : Bool) → (if b or not (all is_digit cs) then None else Some (length (octets_in cs))) ≡ None
     by true = refl
     by false = rw e
 
@@ -56,7 +56,6 @@ accept_fields cs = by (shape cs)
     by (more f g fs p q) = rw (p, none_read cs q)
 
 -- where something stands behind the word
-pub accept_some : (l frame : List ℕ) → (length l ≡ 0 → ⊥)
-    → (accept_of (tabbed_fields l) ≡ framed (decoded_of (drop 1 l))) × (decoded_behind l frame ≡ decoded_into (drop 1 l) frame)
-accept_some [] frame h = absurd (h refl)
-accept_some (c ∷ cs) frame h = (accept_fields cs, refl)
+pub accept_some : (l : List ℕ) → 1 ≤ length l → accept_of (tabbed_fields l) ≡ framed (decoded_of (behind l))
+accept_some [] h = absurd (omega arith)
+accept_some (c ∷ cs) h = rw (behind_one c cs) (accept_fields cs)

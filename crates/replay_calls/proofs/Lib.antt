@@ -1,6 +1,5 @@
 pub mod Fields
 pub mod Numbers
-pub mod Words
 pub mod Several
 pub mod Accept
 pub mod Bound

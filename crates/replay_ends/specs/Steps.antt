@@ -12,7 +12,7 @@ use Rattle.replay_answers.specs.declared.Answer.{Answer}
 use Rattle.replay_answers.specs.declared.Answer as A
 use Rattle.replay_states.specs.Lines.{line_with}
 use Rattle.replay_states.specs.States.{keeper_fields, ledger_fields}
-use Rattle.replay_answers.specs.Answers.{answer_fields, frame_fields}
+use Rattle.replay_answers.specs.Answers.{answer_fields, refused_fields, frame_fields}
 
 -- what a call leaves: a state, and the line that answers it
 pub record Step (S : Type 0) : Type 0 where
@@ -21,10 +21,10 @@ pub record Step (S : Type 0) : Type 0 where
 
 -- ---- answers
 
--- by a machine's answer
-abbrev pub answer_by : {A : Type 0} → (A → Answer) → Outcome A → Answer
-answer_by f (done a) = f a
-answer_by f (refused n) = A.TheVariants.Refused n
+-- the fields of a machine's answer
+abbrev pub fields_by : {A : Type 0} → (A → Answer) → Outcome A → List (List ℕ)
+fields_by f (done a) = answer_fields (f a)
+fields_by f (refused n) = refused_fields n
 
 -- a confirm that is done says no number
 abbrev pub ok_answer : {A : Type 0} → A → Answer
@@ -50,12 +50,12 @@ answered s a = shown s (answer_fields a)
 
 -- what a machine leaves, and the line of its answer
 abbrev pub following : {S A : Type 0} → (A → Answer) → After S A → Step S
-following f a = answered a.state (answer_by f a.answer)
+following f a = shown a.state (fields_by f a.answer)
 
 -- the line of a status: its frame's octets, out of the buffer
 abbrev pub status_line : Outcome ℕ → List ℕ → List ℕ
 status_line (done n) buffer = line_with (frame_fields (take n buffer))
-status_line (refused n) buffer = line_with (answer_fields (A.TheVariants.Refused n))
+status_line (refused n) buffer = line_with (refused_fields n)
 
 -- what a status leaves, and its line
 abbrev pub reporting : secondary.Reported → Step secondary.Keeper

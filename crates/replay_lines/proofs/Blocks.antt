@@ -3,25 +3,24 @@
 -- Assumes nothing.
 use mathlib.Core.Path.{◌≡◌, refl, ap₂}
 use mathlib.Core.Bool.{true, false}
-use mathlib.Core.List.{List, [], ◌∷◌, ◌++◌, append-nil}
+use Rattle.std.specs.Prelude.{Option, Some, None}
+use mathlib.Core.List.{List, [], ◌∷◌, ◌++◌}
 use Prim.Native.Nat.{ℕ}
 use Rattle.basics.specs.Basics.{Outcome, done, refused}
 use Rattle.bearer.specs.Keeper as secondary
 use Rattle.bearer.specs.Ledger as master
 use Rattle.program_lines.specs.Lines.{lines_of, answers}
-use Rattle.program_lines.specs.Feeding.{room_for, feeding, last_of}
 use Rattle.program_lines.proofs.Blocks.{calls_answer}
 use Rattle.program_lines.proofs.Fronts.{lines_count}
 use Rattle.replay_calls.specs.Calls.{read_call}
 use Rattle.replay_calls.specs.declared.Call.{Call}
-use Rattle.replay_calls.specs.declared.Call.TheVariants.{Open, Keeper, Ledger, Unreadable}
+use Rattle.replay_calls.specs.declared.Call.TheVariants.{Open, Keeper, Ledger}
 use Rattle.replay_answers.specs.declared.Answer.TheVariants.{Unopened}
 use Rattle.replay_ends.specs.Steps.{Step, answered}
 use Rattle.replay_ends.specs.Playing.{Ends, opening, play}
 use Rattle.replay_ends.proofs.Steps.{plays_unopened}
 use Rattle.replay_lines.specs.Scripts.{frame_in, play_line, replaying, ScriptsPlay, ScriptsCount, UnopenedPrint}
-use Rattle.replay_lines.specs.Feeding.{ending}
-use Rattle.replay_lines.proofs.Lines.{line_tells}
+use Rattle.replay_lines.specs.Kept.{line_tells}
 use Rattle.replay_lines.proofs.OneLine.{play_line_lem}
 
 -- ---- the script whole
@@ -34,11 +33,6 @@ scripts_play = calls_answer replaying line_tells
 pub scripts_count : ScriptsCount
 unfolding play_line
 scripts_count = lines_count replaying (λ e l. play_line_lem e (read_call l) (frame_in l))
-
--- that answer is said where a last line is fed the line feed that it lacks, and there is room
-pub last_said : (room : ℕ) (e : Ends) (last : List ℕ) → room_for replaying room ≡ true → (feeding replaying room e last (ending last)).said ≡ last_of replaying e last
-last_said room e [] r = refl
-last_said room e (c ∷ cs) r = rw r (append-nil (play_line e (c ∷ cs)).line)
 
 -- ---- ends that are not opened
 
@@ -60,12 +54,12 @@ opens_alike e f (refused n) l p q = record { ends = closed p q; says = refl }
 stays_alike : (e f : Ends) {s t : Step Ends} → s ≡ answered e Unopened → t ≡ answered f Unopened → e.opened ≡ false → f.opened ≡ false → Goes s t
 stays_alike e f is too p q = rw (is, too) (record { ends = closed p q; says = refl })
 
-plays_alike : (e f : Ends) (call : Call) (frame : List ℕ) → e.opened ≡ false → f.opened ≡ false → Goes (play e call frame) (play f call frame)
-plays_alike e f (Open o) frame p q =
+plays_alike : (e f : Ends) (call : Option Call) (frame : List ℕ) → e.opened ≡ false → f.opened ≡ false → Goes (play e call frame) (play f call frame)
+plays_alike e f (Some (Open o)) frame p q =
     opens_alike e f (secondary.open_keeper o.bits o.first o.pdcp) (master.open_ledger o.bits o.first o.pdcp) p q
-plays_alike e f (Keeper call) frame p q = stays_alike e f (plays_unopened e (Keeper call) frame refl p) (plays_unopened f (Keeper call) frame refl q) p q
-plays_alike e f (Ledger call) frame p q = stays_alike e f (plays_unopened e (Ledger call) frame refl p) (plays_unopened f (Ledger call) frame refl q) p q
-plays_alike e f Unreadable frame p q = record { ends = closed p q; says = refl }
+plays_alike e f (Some (Keeper call)) frame p q = stays_alike e f (plays_unopened e (Keeper call) frame refl p) (plays_unopened f (Keeper call) frame refl q) p q
+plays_alike e f (Some (Ledger call)) frame p q = stays_alike e f (plays_unopened e (Ledger call) frame refl p) (plays_unopened f (Ledger call) frame refl q) p q
+plays_alike e f None frame p q = record { ends = closed p q; says = refl }
 
 line_alike : (e f : Ends) (l : List ℕ) → Alike e f → Goes (play_line e l) (play_line f l)
 unfolding play_line

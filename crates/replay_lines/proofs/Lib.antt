@@ -1,4 +1,4 @@
-pub mod Lines
-pub mod Turns
-pub mod Blocks
+pub mod Playing
 pub mod OneLine
+pub mod Blocks
+pub mod Frames

@@ -1,2 +1,3 @@
 pub mod Scripts
-pub mod Feeding
+pub mod Kept
+pub mod Held

@@ -4,9 +4,12 @@ use mathlib.Core.Path.{◌≡◌, refl, sym, ◌∙◌, ap}
 use mathlib.Core.List.{List, [], ◌∷◌, ◌++◌, map, append_assoc, append-nil}
 use Prim.Native.Nat.{ℕ, ◌+◌, ◌≤◌}
 use native.Mathlib.Omega.{arith}
-use Rattle.lister_text.specs.Texts.{tab, comma, parted, joined}
+use Rattle.lister_text.specs.Texts.{ascii, tab, comma, parted, joined}
+use mathlib.Core.Logic.{◌≢◌}
+use Rattle.lister_text.specs.declared.Output.{Output}
+use Rattle.lister_text.specs.Outputs.{fitted, Lays}
 use Rattle.replay_parts.specs.Parts.{Puts}
-use Rattle.replay_parts.proofs.Putting.{puts_none, puts_then, puts_most}
+use Rattle.replay_parts.proofs.Putting.{puts_none, puts_then, puts_most, puts_fitting}
 
 -- texts, the first behind a mark and the others each behind a comma
 abbrev pub behind : ℕ → List (List ℕ) → List ℕ
@@ -32,26 +35,32 @@ behind_all mark t [] = simp append-nil
 behind_all mark t (u ∷ ts) = ap (λ (v : List ℕ). mark ∷ (t ++ v)) (behind_all comma u ts)
 
 -- what a loop has laid: the texts of the first elements, and the mark of the next
-pub record Joins {A : Type 0} (f : A → List ℕ) (d : List ℕ) (at : ℕ) (xs : List A) (mark next : ℕ) (e : List ℕ) (most : ℕ) : Type 0 where
+pub record Joins {A : Type 0} (f : A → List ℕ) (o : Output) (xs : List A) (mark : ℕ) (p : Output) (most : ℕ) : Type 0 where
   pub mark_is : mark ≡ next_mark tab xs
-  pub puts : Puts d at (behind tab (map f xs)) next e most
+  pub puts : Puts o (behind tab (map f xs)) p most
 
-pub joins_none : {A : Type 0} (f : A → List ℕ) (d : List ℕ) (at : ℕ) → Joins f d at [] tab at d 0
-joins_none f d at = record { mark_is = refl; puts = puts_none d refl }
+pub joins_none : {A : Type 0} (f : A → List ℕ) (o : Output) (most : ℕ) → Joins f o [] tab o most
+joins_none f o most = record { mark_is = refl; puts = puts_none o most }
 
 comma_next : {A : Type 0} (xs : List A) (x : A) → comma ≡ next_mark tab (xs ++ (x ∷ []))
 comma_next [] x = refl
 comma_next (y ∷ ys) x = refl
 
-pub joins_more : {A : Type 0} {f : A → List ℕ} {d e g : List ℕ} {at mark mid next m n : ℕ} (k : ℕ) (xs ys : List A) (x : A) → ys ≡ xs ++ (x ∷ []) → m + n ≤ k
-    → Joins f d at xs mark mid e m → Puts e mid (mark ∷ f x) next g n → Joins f d at ys comma next g k
-joins_more {A} {f} k xs ys x is h j p = record {
+pub joins_more : {A : Type 0} {f : A → List ℕ} {o p q : Output} {mark m n : ℕ} (k : ℕ) (xs ys : List A) (x : A) → ys ≡ xs ++ (x ∷ []) → m + n ≤ k
+    → Joins f o xs mark p m → Puts p (mark ∷ f x) q n → Joins f o ys comma q k
+joins_more {A} {f} k xs ys x is h j l = record {
   mark_is = rw is (comma_next xs x);
-  puts = rw (is, behind_more f tab xs x) (puts_most k h (puts_then j.puts (rw j.mark_is at p)));
+  puts = rw (is, behind_more f tab xs x) (puts_most k h (puts_then j.puts (rw j.mark_is at l)));
 }
 
 -- once there is one, they are joined
-pub joins_all : {A : Type 0} {f : A → List ℕ} {d e : List ℕ} {at mark next m : ℕ} (k : ℕ) (xs : List A) → mark ≡ comma → m ≤ k
-    → Joins f d at xs mark next e m → Puts d at (tab ∷ joined (map f xs)) next e k
-joins_all k [] some h j = absurd (let no : ⊥ = omega (arith, j.mark_is) in no)
+pub joins_all : {A : Type 0} {f : A → List ℕ} {o p : Output} {mark m : ℕ} (k : ℕ) (xs : List A) → mark ≢ tab → m ≤ k
+    → Joins f o xs mark p m → Puts o (tab ∷ joined (map f xs)) p k
+joins_all k [] some h j = absurd (some j.mark_is)
 joins_all {A} {f} k (x ∷ xs) some h j = rw (behind_all tab (f x) (map f xs)) at (puts_most k h j.puts)
+
+-- and where there is none, it is said
+pub joins_nothing : {A : Type 0} {f : A → List ℕ} {o p q : Output} {mark m : ℕ} (xs : List A) → mark ≡ tab
+    → Joins f o xs mark p m → Lays p (fitted p (ascii "\tnone")) q → Puts o (tab ∷ joined (map f xs)) q (5 + m)
+joins_nothing [] none j l = puts_most _ (omega arith) (puts_then j.puts (puts_fitting {most = 5} (ascii "\tnone") (omega arith) l))
+joins_nothing (x ∷ xs) none j l = absurd (let no : ⊥ = omega (arith, none, j.mark_is) in no)

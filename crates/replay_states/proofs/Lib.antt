@@ -1,4 +1,3 @@
 pub mod Saying
 pub mod Elements
-pub mod Shown
 pub mod OneLine

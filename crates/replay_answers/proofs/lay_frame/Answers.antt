@@ -1,10 +1,10 @@
 -- `lay_frame`: fields and a line feed, where there is room. Assumes nothing.
-use Rattle.std.proofs.Common.{take, sym, ◌∙◌, arith}
+use Rattle.std.proofs.Common.{take, sym, ◌∙◌, arith, length-take}
 use Rattle.replay_states.proofs.Saying.{line_laid}
-use Rattle.replay_answers.specs.Answers.{frame_fields}
+use Rattle.replay_answers.specs.Answers.{frame_fields, most_frame}
 use Rattle.replay_answers.proofs.lay_frame.Goals as goal
 
-pub returns : goal.returns
-returns c =
-    let a = c.args in
-    line_laid (frame_fields (take a.n a.octets.now)) (omega arith) (sym c.has_room.ensures ∙ c.if-not-has_room.false) c.put_frame-at.ensures c.put_end.ensures
+pub returns-then-has_room : goal.returns-then-has_room
+returns-then-has_room c =
+    let frame = c.args.frame.now in
+    line_laid (frame_fields (take most_frame frame)) (omega (arith, length-take most_frame frame)) (sym c.has_room.ensures ∙ c.if-has_room.true) (rw c.front.ensures at c.put_frame.ensures) c.put_end.ensures

@@ -1,16 +1,15 @@
--- `play_open`: the secondary opened, and the master as it was. Assumes nothing.
+-- `play_open`: both ends opened, where there is room for the line. Assumes nothing.
 use Rattle.std.proofs.Common.{sym, ◌∙◌}
+use Rattle.std.specs.Prelude.{Some}
+use Rattle.replay_answers.specs.Answers.{answer_fields, answer_by}
 use Rattle.replay_calls.specs.declared.Call.TheVariants.{Open}
-use Rattle.replay_ends.proofs.Steps.{into_room, into_full}
+use Rattle.replay_ends.proofs.Steps.{into_room, into_full, plays_shown}
 use Rattle.replay_ends.proofs.play_open.Goals as goal
 
-pub returns-then-not-has_room-clause-result_after : goal.returns-then-not-has_room-clause-result_after
-returns-then-not-has_room-clause-result_after c = λ frame. into_full _ _ _ (Open c.args.o) frame (sym c.has_room.ensures ∙ c.if-not-has_room.true)
+pub returns-then-has_room-clause-plays : goal.returns-then-has_room-clause-plays
+returns-then-has_room-clause-plays c =
+    let opened = plays_shown (answer_fields (answer_by c.open_both-answer.result)) c.open_both-answer.ensures.opens (rw c.from.ensures at c.lay_answer.ensures) in
+    λ frame. into_room _ (Some (Open c.args.o)) frame (sym c.has_room.ensures ∙ c.if-has_room.true) opened
 
-pub returns-clause-result_after : goal.returns-clause-result_after
-returns-clause-result_after c =
-    let room = sym c.has_room.ensures ∙ c.if-not-has_room.false in
-    λ frame. into_room _ (Open c.args.o) frame room (c.open_master.ensures _ _ c.open-answer.ensures.words_after)
-
-pub returns-clause-at_in_bounds : goal.returns-clause-at_in_bounds
-returns-clause-at_in_bounds c = (c.open_master.ensures _ _ c.open-answer.ensures.words_after).said.1
+pub returns-else-has_room-clause-plays : goal.returns-else-has_room-clause-plays
+returns-else-has_room-clause-plays c = λ frame. into_full _ _ (Some (Open c.args.o)) frame (sym c.has_room.ensures ∙ c.if-has_room.false)

@@ -5,4 +5,4 @@ use Rattle.replay_parts.proofs.Putting.{parts_one, parts_first}
 use Rattle.replay_parts.proofs.put_behind.Goals as goal
 
 pub returns : goal.returns
-returns c = parts_first c.put_octet-at.ensures (parts_one (decimal_most 9 c.args.n (omega arith)) c.lay_decimal.ensures)
+returns c = parts_first c.octet.ensures (parts_one (decimal_most 9 c.args.n (omega arith)) c.decimal.ensures)

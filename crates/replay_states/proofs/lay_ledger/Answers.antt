@@ -5,7 +5,6 @@ use Rattle.replay_states.specs.States.{ledger_fields}
 use Rattle.replay_states.proofs.Saying.{line_laid}
 use Rattle.replay_states.proofs.lay_ledger.Goals as goal
 
-pub returns : goal.returns
-returns c =
-    let a = c.args in
-    line_laid (ledger_fields (ledger_in a.l)) (omega arith) (sym c.has_room.ensures ∙ c.if-not-has_room.false) c.put_ledger-at.ensures c.put_end.ensures
+pub returns-then-has_room : goal.returns-then-has_room
+returns-then-has_room c =
+    line_laid (ledger_fields (ledger_in c.args.ledger.now)) (omega arith) (sym c.has_room.ensures ∙ c.if-has_room.true) c.put_ledger.ensures c.put_end.ensures

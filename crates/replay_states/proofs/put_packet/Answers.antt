@@ -4,5 +4,5 @@ use Rattle.replay_states.proofs.put_packet.Goals as goal
 
 pub returns : goal.returns
 returns c =
-    puts_then (puts_parts c.put_behind-at.ensures)
-    (puts_then (puts_parts c.put_behind-at-2.ensures) (puts_then (puts_octet c.put_octet-at.ensures) (puts_octet c.put_octet.ensures)))
+    puts_then (puts_parts c.put_behind.ensures)
+    (puts_then (puts_parts c.put_behind-2.ensures) (puts_then (puts_octet c.octet.ensures) (puts_octet c.octet-2.ensures)))

@@ -1,25 +1,20 @@
--- `put_records`: each turn lays the next record behind its mark. Assumes nothing.
-use Rattle.std.proofs.Common.{◌≡◌, ◌+◌, ◌*◌, take, refl, arith}
-use Rattle.keeper.specs.View.{records_of}
-use Rattle.replay_parts.proofs.Joining.{joins_more, joins_all}
-use Rattle.replay_states.proofs.Elements.{one_record}
+-- `put_records`: they are listed as the arrays have them, side by side. Assumes nothing.
+use Rattle.std.proofs.Common.{arith, rules, tests}
+use Rattle.std.specs.Prelude.{map}
+use Rattle.std.specs.List.{zip}
+use Rattle.std.proofs.lemmas.Iterator.{YieldsList-from_slice, YieldsList-from_zip, YieldsList-from_map}
+use Rattle.std.proofs.lemmas.Iterator.Consumers.{YieldsList-at}
+use Rattle.replay_parts.proofs.Putting.{puts_most}
+use Rattle.replay_states.proofs.Elements.{record_of, records_listed, records_few}
 use Rattle.replay_states.proofs.put_records.Goals as goal
-
-pub loop-i-preserved : goal.loop-i-preserved
-loop-i-preserved c =
-    let l = c.loop-i in
-    let a = c.args in
-    let records = records_of a.numbers.now a.pdcps.now a.marks.now in
-    let one = one_record a.numbers.now a.pdcps.now a.marks.now l.i (omega arith) (omega arith) (omega arith) in (
-      omega arith,
-      λ h. refl,
-      joins_more {n = 24} ((l.i + 1) * 24) (take l.i records) (take (l.i + 1) records) _ one (omega arith) l.invariant.2
-          (rw (← c.kind_of_mark.ensures) c.put_packet-at.ensures),
-    )
 
 pub returns : goal.returns
 returns c =
-    let l = c.loop-i in
-    let a = c.args in
-    let all : l.i ≡ a.n = omega arith in
-    joins_all (5 + a.n * 24) (take a.n (records_of a.numbers.now a.pdcps.now a.marks.now)) (l.invariant.1 (omega arith)) (omega arith) (rw all at l.invariant.2)
+    let ns = c.args.numbers.now in
+    let ps = c.args.pdcps.now in
+    let cs = c.args.marks.now in
+    let records = c.put_listed.ensures.puts (map record_of (zip (zip ns ps) cs))
+    (YieldsList-from_map _ record_of
+    (YieldsList-at c.map.ensures.source (YieldsList-from_zip (YieldsList-at c.zip-records.ensures.first (YieldsList-from_zip (YieldsList-from_slice ns cc) (YieldsList-from_slice ps cc))) (YieldsList-from_slice cs cc)))
+    c.map.ensures.closure (λ x r q k. search (rules, tests))) in
+    puts_most _ (omega (arith, records_few ns ps cs)) (rw (records_listed ns ps cs) at records)

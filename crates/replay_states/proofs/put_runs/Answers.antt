@@ -1,21 +1,17 @@
--- `put_runs`: each turn lays the next run behind its mark. Assumes nothing.
-use Rattle.std.proofs.Common.{◌≡◌, ◌+◌, ◌*◌, take, refl, arith}
-use Rattle.frame_layout.specs.Frames.{ranges_of}
-use Rattle.replay_parts.proofs.Joining.{joins_more, joins_all}
-use Rattle.replay_states.proofs.Elements.{one_range}
+-- `put_runs`: they are listed as the arrays have them, side by side. Assumes nothing.
+use Rattle.std.proofs.Common.{arith, rules, tests}
+use Rattle.std.specs.Prelude.{map}
+use Rattle.std.specs.List.{zip}
+use Rattle.std.proofs.lemmas.Iterator.{YieldsList-from_slice, YieldsList-from_zip, YieldsList-from_map}
+use Rattle.std.proofs.lemmas.Iterator.Consumers.{YieldsList-at}
+use Rattle.replay_parts.proofs.Putting.{puts_most}
+use Rattle.replay_states.proofs.Elements.{run_of, runs_listed, runs_few}
 use Rattle.replay_states.proofs.put_runs.Goals as goal
-
-pub loop-i-preserved : goal.loop-i-preserved
-loop-i-preserved c =
-    let l = c.loop-i in
-    let a = c.args in
-    let runs = ranges_of a.starts.now a.ends.now in
-    let one = one_range a.starts.now a.ends.now l.i (omega arith) (omega arith) in
-    (omega arith, λ h. refl, joins_more ((l.i + 1) * 22) (take l.i runs) (take (l.i + 1) runs) _ one (omega arith) l.invariant.2 c.put_run-at.ensures)
 
 pub returns : goal.returns
 returns c =
-    let l = c.loop-i in
-    let a = c.args in
-    let all : l.i ≡ a.n = omega arith in
-    joins_all (5 + a.n * 22) (take a.n (ranges_of a.starts.now a.ends.now)) (l.invariant.1 (omega arith)) (omega arith) (rw all at l.invariant.2)
+    let ss = c.args.starts.now in
+    let es = c.args.ends.now in
+    let runs = c.put_listed.ensures.puts (map run_of (zip ss es))
+    (YieldsList-from_map _ run_of (YieldsList-at c.map.ensures.source (YieldsList-from_zip (YieldsList-from_slice ss cc) (YieldsList-from_slice es cc))) c.map.ensures.closure (λ x r q k. search (rules, tests))) in
+    puts_most _ (omega (arith, runs_few ss es)) (rw (runs_listed ss es) at runs)
