@@ -45,23 +45,32 @@ const() { # CRATE NAME
   words=$(sed -n "s/^\(pub \)*const $2: [a-z0-9]* = \([^;]*\);.*/\2/p" crates/"$1"/src/*.rt)
   number "$1" "${words:?no const $2 in $1}"
 }
-# size CRATE TYPE: how many numbers an array of that name has
+# size CRATE TYPE: how many numbers an array of that name has, in the crate that declares it or one that it passes it on from
 size() {
-  local words
+  local words from
   words=$(sed -n "s/^\(pub \)*type $2 = \([^;]*\(; [^;]*\)*\);\$/\2/p" crates/"$1"/src/*.rt)
-  case ${words:?no type $2 in $1} in
+  from=$(sed -n "s/^pub use \([a-z_]*\)::.*[{ ]$2[,};].*/\1/p" crates/"$1"/src/*.rt)
+  case ${words:-${from:?no type $2 in $1}} in
   '[u32; '*']') words=${words#'[u32; '} && number "$1" "${words%]}" ;;
   *::*) size "${words%::*}" "${words#*::}" ;;
+  "$from") size "$from" "$2" ;;
   *) size "$1" "$words" ;;
   esac
 }
 
-# stored STRUCT: where the source stores each field of a struct of the header, as C's words; Final is `last` there
+# stored STRUCT: where the source stores each field of a struct of the header, as C's words, by the arrays that it stores there; Final is
+# `last` there, and the ranges are its count
 stored() {
-  local place field
-  sed -n "s/^    $1\[\([A-Z0-9]*\)\] = \([a-z]*\);\$/\1 \2/p" crates/c_calls/src/lib.rt | while read -r place field; do
-    case $place in *[A-Z]*) place=$(const c_calls "$place") ;; esac
-    echo "offsetof(x2u_$1, ${field/#last/final}) == 4 * $place"
+  tr '\n' ' ' <crates/c_calls/src/lib.rt | grep -o "\*$1 = \[[^]]*\]" | sed 's/.*\[ *//; s/,* *\]//' | while IFS= read -r fields; do
+    local place=0 field
+    for field in ${fields//,/ }; do
+      field=${field##*.} field=${field%)}
+      if [ "$field" != 0 ]; then
+        case $field in last) field=final ;; count) field=ranges ;; esac
+        echo "offsetof(x2u_$1, $field) == 4 * $place"
+      fi
+      place=$((place + 1))
+    done
   done
 }
 
@@ -88,7 +97,7 @@ grep -o 'x2u_[a-z_]*(' "$work/declared" | sort >"$work/source"
 sed -n 's/^int64_t \(x2u_[a-z_]*(\).*/\1/p' include/x2u.h | sort >"$work/header"
 check "x2u.h declares no other function, and every one" diff "$work/source" "$work/header"
 sed -n '/---- refusals/,/^};/s/^    X2U_\([A-Z_]*\) = \([0-9]*\),* .*/\1 \2/p' include/x2u.h | sort >"$work/named"
-sed -n 's/^pub const \([A-Z_]*\): u32 = \([0-9]*\);.*/\1 \2/p' crates/refusal/src/lib.rt | sort >"$work/refusals"
+sed -n 's/^    \([A-Z][A-Za-z]*\) = \([0-9]*\),.*/\1 \2/p' crates/refusal/src/lib.rt | sed 's/\([a-z]\)\([A-Z]\)/\1_\2/g' | tr a-z A-Z | sort >"$work/refusals"
 check "x2u.h names refusals as document 01's table does" sh -c '[ -s "$1" ] && [ -z "$(comm -23 "$1" "$2")" ]' sh "$work/named" "$work/refusals"
 
 # each size of the header is the source's, and each field stands where the source stores it: a compiler that isn't told so doesn't compare
@@ -99,10 +108,10 @@ check "x2u.h names refusals as document 01's table does" sh -c '[ -s "$1" ] && [
   while read -r words; do n=$((n + 1)) && printf 'extern char same_%s[%s ? 1 : -1];\n' "$n" "$words"; done <<END
 X2U_MOST_OCTETS == $(const frame_layout MOST_OCTETS)
 X2U_MOST_RANGES == $(size frame_layout RangeArray)
-X2U_MOST_RECORDS == $(size keeper RecordArray)
-X2U_MOST_RUNS == $(size keeper RunArray)
-X2U_WORDS == $(size keeper WordArray)
-X2U_KEEPER == 3 * $(size keeper RecordArray) + 2 * $(size keeper RunArray) + $(size keeper WordArray)
+X2U_MOST_RECORDS == $(size keeper_state RecordArray)
+X2U_MOST_RUNS == $(size keeper_state RunArray)
+X2U_WORDS == $(size keeper_state WordArray)
+X2U_KEEPER == 3 * $(size keeper_state RecordArray) + 2 * $(size keeper_state RunArray) + $(size keeper_state WordArray)
 sizeof(x2u_cursor) == 4 * $(size c_calls CursorArray)
 sizeof(x2u_fields) == 4 * $(size c_calls FieldArray) && $(size c_calls FieldArray) == $(stored fields | wc -l)
 sizeof(x2u_range) == 4 * $(size c_calls EndArray) && $(size c_calls EndArray) == $(stored range | wc -l)

@@ -61,7 +61,7 @@ alike "REPLAY.md, from bash"
 
 # its table of refusals has the code's numbers, and its calls the definitions' orders
 sed -n 's/^| \([0-9]*\) | .*/\1/p' docs/REPLAY.md >"$work/wanted"
-sed -n 's/^pub const [A-Z_]*: u32 = \([0-9]*\);.*/\1/p' crates/refusal/src/lib.rt >"$work/found"
+sed -n 's/^ *[A-Z][A-Za-z]* = \([0-9]*\),.*/\1/p' crates/refusal/src/lib.rt >"$work/found"
 alike "REPLAY.md, the refusals"
 sed -n '/^## The calls/,/^## The refusals/s/^| `.* | \([0-9].*\) |$/\1/p' docs/REPLAY.md >"$work/wanted"
 said() { sed -n "s/^-- \"$1: \([^.]*\)\.\".*/\1/p" crates/bearer/specs/Refusals.antt; }
