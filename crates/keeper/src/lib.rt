@@ -135,10 +135,10 @@ pub fn anything(held: &Held<'_>) -> Result<bool, Refusal>
 }
 
 // What the words say.
-pub fn show(state: &State<'_>) -> Shown
-    ensures { result ≡ shown_in state.now.words.now }
+pub fn show(words: &WordArray) -> Shown
+    ensures { result ≡ shown_in words.now }
 {
-    let words = Words::from(*state.words);
+    let words = Words::from(*words);
     Shown {
         base: words.base,
         reported: words.reported,

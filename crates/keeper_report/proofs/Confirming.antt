@@ -5,9 +5,10 @@ use Rattle.std.proofs.Common.{◌≡◌, Bool, true, false, List, Some, None, �
 use Rattle.std.proofs.Math.Dec.{ltb}
 use borrow.Author.Tests.{lt-ltb, lt-leb, le-leb, ltb-true, ltb-false}
 use Rattle.basics.specs.Basics.{is_set}
+use Rattle.frame_layout.specs.Frames.{Range}
 use Rattle.bearer.specs.Bearer.{refusing}
 use Rattle.bearer.specs.Losses.{before}
-use Rattle.bearer.specs.Keeper.{Keeper, Record, no_record, index_of, confirm_at, confirm}
+use Rattle.bearer.specs.Keeper.{Keeper, Record, no_record, index_of, confirm_at, confirm, ◌with_runs◌}
 use Rattle.keeper_state.specs.declared.Held.{Held}
 use Rattle.keeper_state.specs.State.{is_open, modulus_in}
 use Rattle.keeper_state.specs.Lent.{state_shown}
@@ -36,9 +37,9 @@ module _ (n : ℕ) (ns : List ℕ) where
 
 -- ---- the judgement
 
-module _ (h : Held) (n : ℕ) (opened : is_open h.words.opened ≡ true) (good : n < modulus_in h.words) where
+module _ (h : Held) (runs : List Range) (n : ℕ) (opened : is_open h.words.opened ≡ true) (good : n < modulus_in h.words) where
   abbrev state : Keeper
-  state = state_shown h
+  state = state_shown h with_runs runs
 
   pub nowhere : found n h.numbers.now ≡ None → confirm state n ≡ refusing 16 state
   nowhere e =

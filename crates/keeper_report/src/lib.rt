@@ -2,14 +2,13 @@
 // anything to say. The state is lent to be read (the crate keeper_state). specs/Reports.antt says what a judgement means.
 #![tactic(auto)]
 
-ghost use Rattle.std.specs.Prelude.{◌≡◌, drop, length, take_while};
+ghost use Rattle.std.specs.Prelude.{◌≡◌, List, length, take_while};
 ghost use Rattle.std.specs.List.{zip};
 ghost use Rattle.basics.specs.Basics.{is_set};
 ghost use Rattle.circle.specs.Lengths.{modulus};
-ghost use Rattle.frame_layout.specs.Frames.{most_ranges};
+ghost use Rattle.frame_layout.specs.Frames.{Range};
 ghost use Rattle.bearer.specs.Losses.{goes_before};
-ghost use Rattle.bearer.specs.Keeper.{let_go, news};
-ghost use Rattle.keeper_state.specs.State.{modulus_in};
+ghost use Rattle.bearer.specs.Keeper.{news, ◌with_runs◌};
 ghost use Rattle.keeper_state.specs.Lent.{state_shown};
 ghost use Rattle.keeper_report.specs.Reports.{JudgesConfirm, JudgesStatus, goes};
 
@@ -27,9 +26,9 @@ pub struct Gone {
 
 // ---- the calls
 
-// Confirm of a number: 9, 10, 16, or where its record stands.
+// Confirm of a number: 9, 10, 16, or where its record stands. Runs are not looked at.
 pub fn judge_confirm(held: &Held<'_>, number: u32) -> Result<usize, Refusal>
-    ensures { JudgesConfirm result (state_shown held.now) number }
+    ensures { (runs : List Range) → JudgesConfirm result (state_shown held.now with_runs runs) number }
 {
     let words = held.words;
     if !words.is_open() {
@@ -72,11 +71,7 @@ pub fn judge_status(held: &Held<'_>, last: bool) -> Result<Gone, Refusal>
 pub fn has_news(held: &Held<'_>) -> bool
     ensures { result ≡ let k = state_shown held.now in news k.runs k.records }
 {
-    match held.marks {
-        _ if !held.starts.is_empty() => true,
-        [first, ..] => basics::is_set(*first),
-        [] => false,
-    }
+    !held.starts.is_empty() || held.marks.first().is_some_and(|mark| basics::is_set(*mark))
 }
 
 // ---- status

@@ -6,6 +6,7 @@
 ghost use Rattle.std.specs.Prelude.{◌≡◌, ◌<◌, ◌≤◌, ◌+◌, ◌%◌, ◌^◌, Ok, IfErr, length, take, unwrap_or, pos};
 ghost use Rattle.std.specs.IoError.{raw_os_error};
 ghost use Rattle.std.specs.Io.KnownBytes.{Appends, Consumes, IsAtEnd};
+ghost use Rattle.basics.specs.Laid.{Laid};
 ghost use Rattle.lister_text.specs.Texts.{line_feeds as «line_feeds_of»};
 ghost use Rattle.lister_text.specs.Outputs.{Puts};
 ghost use Rattle.program_io.specs.Reads.{came};
@@ -21,6 +22,9 @@ pub const MOST_WORD: usize = 24; // octets that are said of a name
 
 // Room for what is read at once, and for answers that are written at once.
 pub type BlockArray = [u8; 65536];
+
+// Room for what is said of a failure: 62 octets at most of the lines, 51 of what failed.
+pub type FailureArray = [u8; 128];
 
 // Room for an error in the system's words, of which the C library has 49 octets at most.
 type WordsArray = [u8; 256];
@@ -176,12 +180,22 @@ fn lay_failed(what: &[u8], error: u32, out: &mut Output<'_>)
 }
 
 // Lays what is said where something failed: the program's name, how many lines it answered, what failed, and the error's number.
-pub fn failure_text(name: &[u8], what: &[u8], lines: u64, error: i32, out: &mut Output<'_>)
-    ensures laid { Puts out.old (failing (take most_word name.now) (take most_word what.now) lines («error_number_of» error)) out.new }
-    ensures short { length (failing (take most_word name.now) (take most_word what.now) lines («error_number_of» error)) ≤ 113 }
+pub fn failure_text(
+    name: &[u8],
+    what: &[u8],
+    lines: u64,
+    error: i32,
+    text: &mut FailureArray,
+) -> usize
+    ensures { Laid text.old 0 (failing (take most_word name.now) (take most_word what.now) lines («error_number_of» error)) result text.new }
 {
-    lay_answered(name, lines, out);
-    lay_failed(what, error_number(error), out);
+    let mut out = Output {
+        octets: text,
+        at: 0,
+    };
+    lay_answered(name, lines, &mut out);
+    lay_failed(what, error_number(error), &mut out);
+    out.at
 }
 
 // Where the words end of an error as std says it: the last round bracket and the blank before it belong to its number.
@@ -209,14 +223,10 @@ fn say<E: Write>(errors: &mut E, part: &[u8]) {
 // Says on standard error what failed, with the error's number.
 pub fn say_failed<E: Write>(errors: &mut E, name: &[u8], what: &[u8], lines: u64, error: i32) {
     let mut text = [0; 128];
-    let mut out = Output {
-        octets: &mut text,
-        at: 0,
-    };
-    failure_text(name, what, lines, error, &mut out);
+    let n = failure_text(name, what, lines, error, &mut text);
     let words = words_of(error);
     let said = basics::front(words.get_ref(), words.position() as usize);
-    say(errors, out.laid());
+    say(errors, basics::front(&text, n));
     say(errors, b": ");
     say(errors, basics::front(said, words_end(said)));
     say(errors, b"\n");

@@ -1,6 +1,6 @@
 -- A run, read by read and write by write.
 -- Assumes nothing.
-use Rattle.std.proofs.Common.{◌≡◌, ℕ, ◌+◌, ◌-◌, ◌^◌, ◌≤◌, Bool, true, false, List, [], ◌∷◌, ◌++◌, length, take, drop, eqb, eqb-true, leb, leb-true, le-leb, sym, refl, ap, ◌∙◌, true≢false, append_assoc, append-nil, arith, length-append}
+use Rattle.std.proofs.Common.{◌≡◌, ℕ, ◌+◌, ◌-◌, ◌^◌, ◌≤◌, ◌<◌, Bool, true, false, List, [], ◌∷◌, ◌++◌, length, take, drop, eqb, eqb-true, leb, leb-true, le-leb, sym, refl, ap, ◌∙◌, true≢false, append_assoc, append-nil, arith, length-append}
 use mathlib.Core.Logic.{inl, inr}
 use lib.Seq.{take_all, take_at, sets-eq, length-sets}
 use Rattle.std.proofs.lemmas.List.{take-append-drop}
@@ -17,7 +17,32 @@ use Rattle.program_lines.specs.Feeding as lines
 use Rattle.program_lines.specs.Feeding.{Laws, FrontTells, Left, feeding, told, last_of}
 use Rattle.program_lines.proofs.Feeds.{rest_end, takes_some}
 use Rattle.program_lines.proofs.Blocks.{told_fed, told_answers}
-use Rattle.program_run.specs.Running.{Telling, Roomy, Fed, Finished, Answered, Going, Says, Ran}
+use Rattle.program_run.specs.Running.{Telling, Answered, Going, Says, Ran}
+use Rattle.lister_text.specs.Outputs.{Lays}
+
+-- ---- what a call of feed and of finish comes to
+
+-- an output has so much room
+abbrev pub Roomy : Output → ℕ → Type 0
+Roomy out most = out.at + most ≤ length out.octets.now
+
+-- a place lies within an output
+abbrev pub Within : Output → Type 0
+Within out = out.at ≤ length out.octets.now
+
+-- octets at the front of a block were taken and answered on an output: what was said, and what is said then to the rest, is what was to be said
+pub record Fed (most : ℕ) (told told' : Telling) (block : List ℕ) (taken : ℕ) (out out' : Output) : Type 0 where
+  pub said : List ℕ
+  pub lays : Lays out said out'
+  pub within : Within out → Within out'
+  pub part : taken ≤ length block
+  pub some : Roomy out most → 0 < length block → 0 < taken
+  pub on : (later : List ℕ) → said ++ told' (drop taken block ++ later) ≡ told (block ++ later)
+
+-- the answer to a last line was laid on an output with room for any
+pub record Finished (most : ℕ) (told : Telling) (out out' : Output) : Type 0 where
+  pub lays : Roomy out most → Lays out (told []) out'
+  pub within : Within out → Within out'
 
 -- octets laid at the front of an output stand at its front
 pub front_laid : (d os : List ℕ) (at : ℕ) (e : List ℕ) → Laid d 0 os at e → at ≤ length d → take at e ≡ os

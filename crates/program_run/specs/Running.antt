@@ -2,10 +2,8 @@
 -- holds: of which octets it read, and which it wrote. Of an input or an output that isn't known only so much is said: there are such octets.
 -- A program, as it stands between two blocks, is here what it says to all octets that still come, the answer to a last line included.
 -- Assumes nothing.
-use Rattle.std.specs.Prelude.{◌≡◌, ◌⊎◌, ℕ, ◌+◌, ◌-◌, ◌^◌, ◌≤◌, ◌<◌, Bool, true, List, [], ◌++◌, length, take, drop, Option}
+use Rattle.std.specs.Prelude.{◌≡◌, ◌⊎◌, ℕ, ◌-◌, ◌^◌, ◌≤◌, Bool, true, List, [], ◌++◌, length, take, Option}
 use Rattle.std.specs.Io.KnownBytes.{Appends, Consumes, IsAtEnd}
-use Rattle.lister_text.specs.Outputs.{Lays}
-use Rattle.lister_text.specs.declared.Output.{Output}
 use Rattle.program_lines.specs.Lines.{Answering, lines_of, answers}
 use Rattle.program_lines.specs.Feeding.{told}
 use Rattle.program_run.specs.declared.Reading.{Reading}
@@ -17,28 +15,6 @@ Telling = List ℕ → List ℕ
 -- by a program in a state, behind what is held of an unfinished line
 abbrev pub told_by : {S A : Type 0} {N : ℕ} → Answering S → (A → S) → Reading A N → Telling
 told_by p state r = told p (state r.program) (take r.line.held r.line.octets)
-
--- an output has so much room
-abbrev pub Roomy : Output → ℕ → Type 0
-Roomy out most = out.at + most ≤ length out.octets.now
-
--- a place lies within an output
-abbrev pub Within : Output → Type 0
-Within out = out.at ≤ length out.octets.now
-
--- octets at the front of a block were taken and answered on an output: what was said, and what is said then to the rest, is what was to be said
-pub record Fed (most : ℕ) (told told' : Telling) (block : List ℕ) (taken : ℕ) (out out' : Output) : Type 0 where
-  pub said : List ℕ
-  pub lays : Lays out said out'
-  pub within : Within out → Within out'
-  pub part : taken ≤ length block
-  pub some : Roomy out most → 0 < length block → 0 < taken
-  pub on : (later : List ℕ) → said ++ told' (drop taken block ++ later) ≡ told (block ++ later)
-
--- the answer to a last line was laid on an output with room for any
-pub record Finished (most : ℕ) (told : Telling) (out out' : Output) : Type 0 where
-  pub lays : Roomy out most → Lays out (told []) out'
-  pub within : Within out → Within out'
 
 -- octets came: an output grew by a front of all that is said to them, whatever comes later; and where it was written whole, the rest of that
 -- is what is said then to those that are pending and what comes later

@@ -11,7 +11,7 @@ use Rattle.refusal.specs.declared.Refusal.{Refusal}
 use Rattle.refusal.specs.Numbers.{number_of}
 use Rattle.replay_answers.specs.Answers.{refused_fields}
 use Rattle.replay_ends.specs.Steps.{shown}
-use Rattle.replay_ends.specs.Playing.{Ends, ends_of, opening}
+use Rattle.replay_ends.specs.Playing.{ends_of, opening}
 
 -- it leaves both ends as they are, and is answered by its refusal
 pub refused_alike : (opened : Bool) (k k' : secondary.Keeper) (l : master.Ledger Unit) (o : Outcome secondary.Keeper) (m : Outcome (master.Ledger Unit)) (e : Refusal)

@@ -1,6 +1,6 @@
 -- What a step leaves of both ends and of an output.
 -- Assumes nothing.
-use Rattle.std.proofs.Common.{◌≡◌, ℕ, ◌+◌, Bool, true, false, List, length, refl, sym, ap, ◌∙◌, subst}
+use Rattle.std.proofs.Common.{◌≡◌, ℕ, ◌+◌, Bool, true, false, List, length, refl, sym, ap, subst}
 use Rattle.std.specs.Prelude.{leb, Option, Some}
 use native.Mathlib.Nat.{add-zero}
 use Rattle.basics.specs.Laid.{Laid}

@@ -1,13 +1,12 @@
 -- A line played into an output is answered as the script has it.
 -- Assumes nothing.
-use Rattle.std.proofs.Common.{◌≡◌, ℕ, ◌+◌, List, length, true, ap, le-leb}
-use Rattle.std.specs.Prelude.{leb}
+use Rattle.std.proofs.Common.{◌≡◌, ℕ, ◌+◌, List, length, ap, le-leb}
 use Rattle.lister_text.specs.declared.Output.{Output}
 use Rattle.lister_text.specs.Outputs.{HasRoom}
 use Rattle.program_lines.specs.Feeding.{Said}
 use Rattle.replay_calls.specs.Calls.{read_call}
 use Rattle.replay_states.specs.Lines.{most_text}
-use Rattle.replay_ends.specs.Playing.{Ends, Played, laying, play, play_into, PlaysInto}
+use Rattle.replay_ends.specs.Playing.{Ends, Played, laying, play_into, PlaysInto}
 use Rattle.replay_lines.specs.Scripts.{frame_in, play_line, replaying}
 
 -- with room, what was played is what the line says

@@ -19,7 +19,7 @@ good c = omega (arith, c.modulus.ensures ∙ ap (λ (b : Point). modulus b.long)
 pub returns-in_default : goal.returns-in_default
 returns-in_default c =
     let k = (goal.at.returns-in_default c).After-index_of in
-    nowhere c.args.held.now c.args.number (opened k) (good k) (sym c.index_of.ensures ∙ c.in_default.is)
+    λ runs. nowhere c.args.held.now runs c.args.number (opened k) (good k) (sym c.index_of.ensures ∙ c.in_default.is)
 
 -- whether it lies before base
 lies : (c : After-is_before) → let h = c.args.held.now in before (modulus_in h.words) h.words.base c.args.number ≡ c.is_before.result
@@ -30,13 +30,14 @@ returns-then-not-is_before c =
     let k = (goal.at.returns-then-not-is_before c).After-index_of in
     let b = (goal.at.returns-then-not-is_before c).After-is_before in
     let at = sym c.index_of.ensures ∙ c.in-Some.is in
+    λ runs.
     elim c.then-not-is_before.branch [
-      | then-not-is_before-via-then-not-is_before w ↦ not_behind c.args.held.now c.args.number (opened k) (good k) c.in-Some.at at (lies b ∙ w.if-not-is_before.true)
-      | then-not-is_before-via-else-not-is_before+then-is_set w ↦ marked_already c.args.held.now c.args.number (opened k) (good k) c.in-Some.at at (lies b ∙ w.if-not-is_before.false) (sym w.is_set.ensures ∙ w.if-is_set.true)
+      | then-not-is_before-via-then-not-is_before w ↦ not_behind c.args.held.now runs c.args.number (opened k) (good k) c.in-Some.at at (lies b ∙ w.if-not-is_before.true)
+      | then-not-is_before-via-else-not-is_before+then-is_set w ↦ marked_already c.args.held.now runs c.args.number (opened k) (good k) c.in-Some.at at (lies b ∙ w.if-not-is_before.false) (sym w.is_set.ensures ∙ w.if-is_set.true)
     ]
 
 pub returns : goal.returns
 returns c =
     let k = (goal.at.returns c).After-index_of in
     let b = (goal.at.returns c).After-is_before in
-    marks c.args.held.now c.args.number (opened k) (good k) c.in-Some.at (sym c.index_of.ensures ∙ c.in-Some.is) (lies b ∙ c.if-not-is_before.false) (sym c.is_set.ensures ∙ c.if-is_set.false)
+    λ runs. marks c.args.held.now runs c.args.number (opened k) (good k) c.in-Some.at (sym c.index_of.ensures ∙ c.in-Some.is) (lies b ∙ c.if-not-is_before.false) (sym c.is_set.ensures ∙ c.if-is_set.false)

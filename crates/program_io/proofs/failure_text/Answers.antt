@@ -13,12 +13,12 @@ number_is c =
     let own : to_z w32 (of_z w32 c.args.error) ≡ c.args.error = search rules in
     c.error_number.ensures ∙ ap error_number own
 
-pub returns-clause-laid : goal.returns-clause-laid
-returns-clause-laid c = puts_then c.lay_answered.ensures (rw (number_is (goal.at.returns-clause-laid c).After-error_number) at c.lay_failed.ensures)
-
-pub returns-clause-short : goal.returns-clause-short
-returns-clause-short c =
+pub returns : goal.returns
+returns c =
     let name = c.args.name.now in
     let what = c.args.what.now in
-    failing_most (take most_word name) (take most_word what) c.args.lines _ (omega (arith, length-take most_word name)) (omega (arith, length-take most_word what)) (search rules)
-    (rw (number_is (goal.at.returns-clause-short c).After-error_number) at c.error_number.type_inv)
+    let is = number_is (goal.at.returns c).After-error_number in
+    let puts = puts_then c.lay_answered.ensures (rw is at c.lay_failed.ensures) in
+    let few = failing_most (take most_word name) (take most_word what) c.args.lines _ (omega (arith, length-take most_word name)) (omega (arith, length-take most_word what)) c.ranges.lines.fits
+    (rw is at c.error_number.type_inv) in
+    (puts.lays (omega (arith, few, c.told-text))).laid

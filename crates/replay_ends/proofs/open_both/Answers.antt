@@ -1,5 +1,5 @@
 -- `open_both`: a refused open leaves what was there. Assumes nothing.
-use Rattle.std.proofs.Common.{◌≡◌, ap, sym, ◌∙◌, rules}
+use Rattle.std.proofs.Common.{◌≡◌, rules}
 use Rattle.std.specs.Prelude.{Err, is_some}
 use Rattle.bearer.specs.Keeper.{open_keeper}
 use Rattle.bearer.specs.Ledger.{open_ledger}

@@ -1,8 +1,6 @@
 -- `status`: the frame lies within the room. Assumes nothing.
-use Rattle.std.proofs.Common.{◌≡◌, ℕ, min, List, ◌++◌, length, take, drop, replicate, refl, sym, ◌∙◌, ap, subst, arith, length-take}
-use Rattle.std.specs.Prelude.{Ok, Err, Result}
+use Rattle.std.proofs.Common.{◌≡◌, ℕ, min, List, ◌++◌, take, drop, replicate, sym, ◌∙◌, ap, subst, arith, length-take}
 use Rattle.frame_layout.specs.Frames.{Within}
-use Rattle.refusal.specs.declared.Refusal.{Refusal}
 use Rattle.refusal.specs.Numbers.{number_of}
 use Rattle.bearer.specs.Keeper.{Keeper, Reported, status as status_of}
 use Rattle.bearer.proofs.Answers.Reported.{left_report}
