@@ -1,6 +1,7 @@
 -- A number in decimal, digit by digit, and how many digits it has.
 -- Assumes nothing.
 use Rattle.std.proofs.Common.{◌≡◌, ℕ, zero, suc, ◌+◌, ◌*◌, ◌/◌, ◌%◌, ◌^◌, ◌<◌, ◌≤◌, List, [], ◌∷◌, ◌++◌, length, ap, sym, ◌∙◌, pow-suc, arith, length-append, le-ltb, lt-ltb}
+use native.Mathlib.Nat.{one-le-pow}
 use Prim.Native.Char.{code}
 use Rattle.std.specs.Fmt.{decimal as standard}
 use Rattle.std.proofs.lemmas.Fmt.{decimal_by_steps}
@@ -29,6 +30,19 @@ decimal_more n h = rw (le-ltb n 10 h) (ap (λ (ds : List ℕ). ds ++ ((code "0" 
 -- and one digit more than its tenth
 pub length_more : (n : ℕ) → 10 ≤ n → length (decimal n) ≡ length (decimal (n / 10)) + 1
 length_more n h = ap length (decimal_more n h) ∙ length-append (decimal (n / 10)) ((code "0" + n % 10) ∷ [])
+
+-- a number has a digit
+pub decimal_some : (n : ℕ) → 0 < length (decimal n)
+decimal_some n = below_or n 10 (λ b. rw (decimal_one n b) (omega arith)) (λ b. omega (arith, length_more n b))
+
+-- from 10 ^ k to 10 ^ suc k it has suc k digits
+pub length_decimal : (k n : ℕ) → 10 ^ k ≤ n → n < 10 ^ suc k → length (decimal n) ≡ suc k
+length_decimal zero n l h = ap length (decimal_one n h)
+length_decimal (suc k) n l h =
+    let p : 10 ^ suc k ≡ 10 ^ k * 10 = pow-suc 10 k in
+    let q : 10 ^ suc (suc k) ≡ 10 ^ suc k * 10 = pow-suc 10 (suc k) in
+    let some : 1 ≤ 10 ^ k = one-le-pow k 10 (omega arith) in
+    omega (arith, length_more n (omega arith), length_decimal k (n / 10) (omega arith) (omega arith))
 
 -- below 10 ^ suc k it has at most suc k
 pub decimal_most : (k n : ℕ) → n < 10 ^ suc k → length (decimal n) ≤ suc k

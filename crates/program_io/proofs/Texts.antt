@@ -6,7 +6,7 @@ use Rattle.lister_text.proofs.Decimal.{decimal_most}
 use Rattle.program_io.specs.Failures.{most_word, answered, failed, failing}
 
 -- how many lines were answered takes at most 62 octets
-answered_most : (name : List ℕ) (lines : ℕ) → length name ≤ most_word → lines < 2 ^ 64 → length (answered name lines) ≤ 62
+pub answered_most : (name : List ℕ) (lines : ℕ) → length name ≤ most_word → lines < 2 ^ 64 → length (answered name lines) ≤ 62
 answered_most name lines few fits =
     omega (arith, length-append (name ++ ascii ": lines answered: ") (decimal lines), length-append name (ascii ": lines answered: "), decimal_most 19 lines (omega arith))
 

@@ -17,7 +17,7 @@ use Rattle.basics.proofs.Laying.{laid_length, sets_append}
 use Rattle.lister_text.specs.Texts.{line_feed, unended, FeedAt}
 use Rattle.lister_text.proofs.Cases.{true_or, below_or}
 use Rattle.program_lines.specs.Lines.{Answering}
-use Rattle.program_lines.specs.Feeding.{most_held, kept, FrontTells, room_for, Feeding, saying, feeding, Left, leaving}
+use Rattle.program_lines.specs.Feeding.{most_held, kept, FrontTells, room_for, Feeding, saying, feeding, last_of, Left, leaving}
 
 -- ---- what is held
 
@@ -151,6 +151,26 @@ module _ {S : Type 0} (p : Answering S) where
     where
       one_more : (rest : List ℕ) → length rest ≤ length cs → drop (length cs - length rest) cs ≡ rest → drop (length (c ∷ cs) - length rest) (c ∷ cs) ≡ rest
       one_more rest h e = ap (λ (k : ℕ). drop k (c ∷ cs)) (let more : length (c ∷ cs) - length rest ≡ suc (length cs - length rest) = omega arith in more) ∙ e
+
+  -- the answers fit into the room, where none is longer than said
+  pub said_fits : ((s : S) (l : List ℕ) → length (p.answer s l) ≤ p.most_text) → (room : ℕ) (s : S) (line block : List ℕ)
+      → length (feeding p room s line block).said ≤ room
+  said_fits most room s line [] = omega arith
+  said_fits most room s line (c ∷ cs) =
+      true_or (room_for p room)
+      (λ r.
+      true_or (eqb c line_feed)
+      (λ e.
+      let t = p.answer s line in
+      let after = (feeding p (room - length t) (p.next s line) [] cs).said in
+      rw (r, e) (omega (arith, length-append t after, said_fits most (room - length t) (p.next s line) [] cs, most s line, leb-true p.most_text room r)))
+      (λ e. rw (r, e) (said_fits most room s (kept p (line ++ (c ∷ []))) cs)))
+      (λ r. rw r (omega arith))
+
+  -- and a last line's is no longer than any
+  pub last_most : ((s : S) (l : List ℕ) → length (p.answer s l) ≤ p.most_text) → (s : S) (l : List ℕ) → length (last_of p s l) ≤ p.most_text
+  last_most most s [] = omega arith
+  last_most most s (c ∷ cs) = most s (c ∷ cs)
 
   -- what a caller learns: with room and octets, some are taken, and no more than there are
   pub takes_some : (block line out : List ℕ) (s : S) (at : ℕ) {w : Left S} → w ≡ leaving (length block) out at (feeding p (length out - at) s line block)

@@ -140,6 +140,12 @@ pub record Onward {S : Type 0} {N : ℕ} (p : Answering S) (s : S) (line : Line 
   pub inside : out.at ≤ length out.octets.now → out'.at ≤ length out'.octets.now
 
 -- a last line without its line feed was answered where there was room for any answer; an empty one is none
+pub record LastAnswered {S : Type 0} (p : Answering S) (s : S) (line : List ℕ) (out : Output) (s' : S) (out' : Output) : Type 0 where
+  pub lays : Lays out (if room_for p (length out.octets.now - out.at) then last_of p s line else []) out'
+  pub next : s' ≡ (if room_for p (length out.octets.now - out.at) then last_state p s line else s)
+  pub within : out.at ≤ length out.octets.now → out'.at ≤ length out'.octets.now
+
+-- and nothing is held of it then
 pub record Finished {S : Type 0} (p : Answering S) (s : S) (line : List ℕ) (out : Output) (s' : S) (line' : List ℕ) (out' : Output) : Type 0 where
   pub lays : Lays out (if room_for p (length out.octets.now - out.at) then last_of p s line else []) out'
   pub next : s' ≡ (if room_for p (length out.octets.now - out.at) then last_state p s line else s)

@@ -5,7 +5,7 @@
 ghost use Rattle.std.specs.Prelude.{◌≡◌, ◌<◌, ◌≤◌, [], ℕ, length, take};
 ghost use Rattle.program_lines.specs.Lines.{Answering};
 ghost use Rattle.lister_text.specs.Outputs.{HasRoom};
-ghost use Rattle.program_lines.specs.Feeding.{Holds, Laws, Said, Onward, Fed, Finished};
+ghost use Rattle.program_lines.specs.Feeding.{Holds, Laws, Said, Onward, Fed, LastAnswered, Finished};
 
 use lister_text::Output;
 
@@ -40,12 +40,19 @@ impl<const N: usize> Line<N> {
         ensures within { self.new.held ≤ length self.new.octets }
         ensures front { Holds N (take self.old.held self.old.octets) part.now (take self.new.held self.new.octets) }
     {
-        let at = self.held.min(N);
-        let n = part.len().min(N - at);
-        let line = &mut self.octets[..];
-        line[at..at + n].copy_from_slice(&part[..n]);
-        self.held = at + n;
+        self.held = hold(part, &mut self.octets, self.held);
     }
+}
+
+// Holds more of an unfinished line in a buffer of any length, up to the buffer's end, and answers how much is held.
+pub fn hold(part: &[u8], line: &mut [u8], held: usize) -> usize
+    ensures within { result ≤ length line.old }
+    ensures front { Holds (length line.old) (take held line.old) part.now (take result line.new) }
+{
+    let at = held.min(line.len());
+    let n = part.len().min(line.len() - at);
+    line[at..at + n].copy_from_slice(&part[..n]);
+    at + n
 }
 
 // A program that answers lines, and looks at no more than N octets of each.
@@ -85,9 +92,9 @@ fn feed_line<A: AnswersLines<N>, const N: usize>(
         line.hold(block);
         return block.len();
     };
-    // A line that lies in the block is answered where it lies.
+    // A line that lies in the block is answered where it lies, and no more of it is looked at than would be held.
     if line.held == 0 {
-        program.answer(&block[..end], out);
+        program.answer(basics::front(&block[..end], N), out);
         return end + 1;
     }
     line.hold(&block[..end]);
@@ -114,7 +121,20 @@ pub fn feed<A: AnswersLines<N>, const N: usize>(
     taken
 }
 
-// Behind the last block: the answer to a last line without its line feed.
+// Behind the last block: the answer to a last line without its line feed, which stays held.
+pub fn answer_last<A: AnswersLines<N>, const N: usize>(
+    program: &mut A,
+    line: &Line<N>,
+    out: &mut Output<'_>,
+)
+    ensures { LastAnswered A.program (A.state program.old) (take line.now.held line.now.octets) out.old (A.state program.new) out.new }
+{
+    if !line.held().is_empty() && out.fits(A::MOST_TEXT) {
+        program.answer(line.held(), out);
+    }
+}
+
+// The same, and where there was room for any answer nothing stays held.
 pub fn finish<A: AnswersLines<N>, const N: usize>(
     program: &mut A,
     line: &mut Line<N>,
@@ -122,8 +142,9 @@ pub fn finish<A: AnswersLines<N>, const N: usize>(
 )
     ensures { Finished A.program (A.state program.old) (take line.old.held line.old.octets) out.old (A.state program.new) (take line.new.held line.new.octets) out.new }
 {
-    if !line.held().is_empty() && out.fits(A::MOST_TEXT) {
-        program.answer(line.held(), out);
+    let room = out.fits(A::MOST_TEXT);
+    answer_last(program, line, out);
+    if room {
         line.held = 0;
     }
 }

@@ -140,6 +140,10 @@ pub fails : (o o' : Option (List ℕ)) (t t' t'' : Telling) (octets pending pend
     → Answered o o' t octets false t' pending → Answered o o' t octets false t'' pending'
 fails o o' t t' t'' octets pending pending' a = record { written = a.written; writes = a.writes; front = a.front; on = λ e. absurd (true≢false (sym e)) }
 
+-- something failed: nothing was written
+pub short : (o : Option (List ℕ)) (t t' : Telling) (octets pending : List ℕ) → Answered o o t octets false t' pending
+short o t t' octets pending = record { written = []; writes = appends_none o; front = λ later. (t (octets ++ later), refl); on = λ e. absurd (true≢false (sym e)) }
+
 -- ---- reads
 
 -- before the first
@@ -156,6 +160,10 @@ nothing i i' i'' o o' t t' m whole g r =
       some = omega (arith, length-append g.read [], g.some);
       answered = rw (append-nil g.read) (record { written = a.written; writes = a.writes; front = a.front; on = λ w. a.on refl });
     }
+
+-- one failed: nothing was read or written
+pub read_fails : (i i' o : Option (List ℕ)) (t t' : Telling) → Consumes i i' [] → Going i i' o o t 0 false t'
+read_fails i i' o t t' r = record { read = []; reads = r; some = omega arith; answered = short o t t' [] [] }
 
 -- one more: its octets are answered
 pub goes_on : (i i' i'' o o' o'' : Option (List ℕ)) (t t' t'' : Telling) (octets : List ℕ) (m n : ℕ) (whole : Bool)

@@ -1,14 +1,9 @@
 -- `line_feeds`: the line feeds of a part and of what is behind it are all. Assumes nothing.
-use Rattle.std.proofs.Common.{◌≡◌, ℕ, ◌+◌, ◌≤◌, Bool, true, false, eqb, List, [], ◌∷◌, ◌++◌, length, ap, ◌∙◌, arith, length-append}
+use Rattle.std.proofs.Common.{◌≡◌, ℕ, ◌+◌, ◌≤◌, eqb, List, [], ◌∷◌, ◌++◌, length, ap, ◌∙◌, arith, length-append}
 use Rattle.std.specs.Slice.Iter.{chunks_rest}
-use Rattle.basics.specs.Basics.{bit}
 use Rattle.lister_text.specs.Texts.{line_feed, line_feeds}
+use Rattle.program_io.proofs.Feeds.{bit_most}
 use Rattle.program_io.proofs.line_feeds.Goals as goal
-
--- an octet is one line feed at most
-bit_most : (b : Bool) → bit b ≤ 1
-bit_most true = omega arith
-bit_most false = omega arith
 
 -- the line feeds of a front and of what is behind it are all
 feeds_part : (xs ys : List ℕ) → line_feeds (xs ++ ys) ≡ line_feeds xs + line_feeds ys

@@ -63,9 +63,13 @@ returns-in_default g c =
 pub returns-then-line-eq0 : goal.returns-then-line-eq0
 returns-then-line-eq0 g c =
     let a = c.args in
+    let p = g.A.AnswersLines.program in
+    let laws : Laws p _ _ = g.met.A.AnswersLines.laws in
     let none = c.if-line-eq0.true in
-    answered_line g.A.AnswersLines.program g.met.A.AnswersLines.laws _ a.line.now (search rules) a.block.now a.out.now c.requires.1 c.in-Some.ensures _ _ a.line.now c.answer.new.out c.answer.ensures
-    (rw none refl) (rw none refl) none
+    let whole = take c.in-Some.end a.block.now in
+    let kept_line : c.front.result.now ≡ kept p whole = c.front.ensures ∙ ap (λ (n : ℕ). take n whole) (sym laws.few) in
+    answered_line p laws _ a.line.now (search rules) a.block.now a.out.now c.requires.1 c.in-Some.ensures c.front.result.now _ a.line.now c.answer.new.out c.answer.ensures
+    (rw none (ap (p.answer _) kept_line ∙ laws.tells.answer _ whole)) (rw none (ap (p.next _) kept_line ∙ laws.tells.next _ whole)) none
 
 pub returns : goal.returns
 returns g c =

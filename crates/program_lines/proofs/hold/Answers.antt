@@ -1,11 +1,11 @@
--- `Line::hold`: what is copied behind the held octets, up to the buffer's end, is what is held of both. Assumes nothing.
-use Rattle.std.proofs.Common.{◌≡◌, ℕ, ◌+◌, ◌-◌, min, List, ◌++◌, length, take, sym, ap, ap₂, ◌∙◌, arith, length-take-le, take_all, rules}
+-- `hold`: what is copied behind the held octets, up to the buffer's end, is what is held of both. Assumes nothing.
+use Rattle.std.proofs.Common.{◌≡◌, ℕ, ◌+◌, ◌-◌, min, List, ◌++◌, length, take, refl, sym, ap, ap₂, ◌∙◌, arith, length-take-le, take_all}
 use Rattle.std.proofs.lemmas.Slice.{take-put_mid}
 use lib.Seq.{take-append-add}
 use Rattle.lister_text.proofs.Cases.{below_or}
 use Rattle.program_lines.specs.Feeding.{Holds}
 use Rattle.program_lines.proofs.Feeds.{take_held}
-use Rattle.program_lines.proofs.Line.hold.Goals as goal
+use Rattle.program_lines.proofs.hold.Goals as goal
 
 -- in a buffer of m octets
 module _ (line part : List ℕ) (m held at n : ℕ) (size : length line ≡ m) (from : at ≡ min held m) (fits : n ≡ min (length part) (m - at)) where
@@ -28,12 +28,11 @@ module _ (line part : List ℕ) (m held at n : ℕ) (size : length line ≡ m) (
       ∙ ap₂ (λ (k : ℕ) (l : List ℕ). take k (l ++ part)) whole held_front
 
 pub returns-clause-front : goal.returns-clause-front
-returns-clause-front g c =
-    let line = c.args.self.now.octets in
+returns-clause-front c =
+    let line = c.args.line.now in
     let part = c.args.part.now in
     let at = c.min-at.result in
     let n = c.min-n.result in
-    let size : length line ≡ g.row.N = search rules in
     let copied = c.copy_from_slice.ensures.after in
     take-put_mid at (at + n - at) line c.copy_from_slice.new.self (at + n) (rw copied (omega (arith, length-take-le n part (omega arith)))) (omega arith)
-    ∙ rw copied (holds line part g.row.N c.args.self.now.held at n size c.min-at.ensures c.min-n.ensures)
+    ∙ rw copied (holds line part (length line) c.args.held at n refl c.min-at.ensures c.min-n.ensures)
