@@ -1,4 +1,5 @@
 pub mod Words
+pub mod Opening
 pub mod Parts
 pub mod Ranges
 pub mod Records

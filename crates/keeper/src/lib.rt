@@ -169,23 +169,14 @@ fn fresh(bits: u32, number: u32, pdcp: u32) -> Words
 fn move_base(state: &mut State<'_>, base: u32)
     ensures { Becomes state.old state.new (keeper_of state.old with_base base) }
 {
-    *state.words = Words {
-        base,
-        ..state.held().words
-    }
-    .into();
+    keeper_state::store_base(state.words, base);
 }
 
 // A status reports the highest, and the last one closes.
 fn report(state: &mut State<'_>, highest: u32, last: bool)
     ensures { Becomes state.old state.new (keeper_of state.old with_reported highest with_closed last) }
 {
-    *state.words = Words {
-        reported: highest,
-        opened: keeper_state::opened_word(last),
-        ..state.held().words
-    }
-    .into();
+    keeper_state::store_reported(state.words, highest, last);
 }
 
 // ---- runs
@@ -195,8 +186,9 @@ fn list_lost(state: &mut State<'_>, lost: Losses)
     requires { Loses lost (keeper_of state.old) }
     ensures { Becomes state.old state.new (keeper_of state.old with_runs runs_after (keeper_of state.old) lost.limit) }
 {
-    // Nothing lies below base itself: the usual arrival ends here.
+    // Nothing lies below base itself: the usual arrival ends here. A count past the end is stored as full.
     if lost.limit == 0 {
+        keeper_state::store_runs(state.words, lost.runs as u32);
         return;
     }
     let words = state.held().words;
@@ -211,11 +203,7 @@ fn list_lost(state: &mut State<'_>, lost: Losses)
         ends,
         words.listed(),
     );
-    *state.words = Words {
-        runs: lost.runs as u32,
-        ..words
-    }
-    .into();
+    keeper_state::store_runs(state.words, lost.runs as u32);
 }
 
 // Lists what is lost behind so many runs, where these numbers are held. Starts, ends and their count stand side by side, as C lends them.
@@ -252,16 +240,11 @@ fn list_runs(
 fn drop_runs(state: &mut State<'_>)
     ensures { Becomes state.old state.new (keeper_of state.old with_runs drop most_ranges (keeper_of state.old).runs) }
 {
-    let words = state.held().words;
-    let listed = words.listed();
+    let listed = state.held().words.listed();
     let carried = listed.min(frame_layout::MOST_RANGES);
     take_off(state.starts, listed, carried);
     take_off(state.ends, listed, carried);
-    *state.words = Words {
-        runs: (listed - carried) as u32,
-        ..words
-    }
-    .into();
+    keeper_state::store_runs(state.words, (listed - carried) as u32);
 }
 
 // ---- records
@@ -271,16 +254,11 @@ fn add_record(state: &mut State<'_>, place: usize, number: u32, pdcp: u32)
     requires { (place ≤ length (keeper_of state.old).records) × (length (keeper_of state.old).records < most_records) }
     ensures { Becomes state.old state.new (keeper_of state.old with_records records_with (keeper_of state.old).records place (new_record number pdcp)) }
 {
-    let words = state.held().words;
-    let held = words.held();
+    let held = state.held().words.held();
     put_in(state.numbers, held, place, number);
     put_in(state.pdcps, held, place, pdcp);
     put_in(state.marks, held, place, 0);
-    *state.words = Words {
-        records: held as u32 + 1,
-        ..words
-    }
-    .into();
+    keeper_state::store_records(state.words, held as u32 + 1);
 }
 
 // Takes records off the front of those held.
@@ -288,16 +266,11 @@ fn drop_records(state: &mut State<'_>, gone: usize)
     requires { gone ≤ length (keeper_of state.old).records }
     ensures { Becomes state.old state.new (keeper_of state.old with_records drop gone (keeper_of state.old).records) }
 {
-    let words = state.held().words;
-    let held = words.held();
+    let held = state.held().words.held();
     take_off(state.numbers, held, gone);
     take_off(state.pdcps, held, gone);
     take_off(state.marks, held, gone);
-    *state.words = Words {
-        records: (held - gone) as u32,
-        ..words
-    }
-    .into();
+    keeper_state::store_records(state.words, (held - gone) as u32);
 }
 
 // ---- numbers at the front of an array, whose count is a word beside it, as C lends them

@@ -26,7 +26,7 @@ gaps_none c l [] h = rw (le-ltb c l h)
 gaps_none c l (o ∷ os) h = rw (outside_all c l o h) (gaps_none c l os h)
 
 -- a gap is one or none
-gap_count : (c l : ℕ) → length (gap c l) ≤ 1
+pub gap_count : (c l : ℕ) → length (gap c l) ≤ 1
 gap_count c l = by_test (ltb c l)
   where
     by_test : (t : Bool) → length {A = Gap} (if t then record { from = c; to = l } ∷ [] else []) ≤ 1

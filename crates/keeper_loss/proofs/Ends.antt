@@ -5,15 +5,17 @@ use Rattle.std.specs.Prelude.{if◌then◌else◌}
 use mathlib.Core.Path.{◌≡◌, refl, ap}
 use mathlib.Core.Bool.{Bool, true, false, cond}
 use mathlib.Core.List.{List, [], ◌∷◌}
-use Prim.Native.Nat.{ℕ, zero, suc, ◌+◌, ◌<◌}
+use Prim.Native.Nat.{ℕ, zero, suc, ◌+◌, ◌≤◌, ◌<◌}
 use native.Mathlib.Omega.{arith}
 use lib.ListN.{length, get_or}
+use lib.Seq.{set_out, sets}
 use Rattle.std.proofs.lemmas.List.Recursion.{is_position_or_len}
 use Rattle.std.specs.List.{position, position_or_len}
 use lib.Dec.{eqb}
 use Rattle.basics.specs.Basics.{◌or◌, all}
 use Rattle.basics.proofs.Choices.{and_no}
-use Rattle.bearer.specs.Losses.{before, ahead_of, front_of, is_beyond}
+use Rattle.circle.specs.Circle.{forward, forward_below}
+use Rattle.bearer.specs.Losses.{before, ahead_of, front_of, first_behind, is_beyond}
 use Rattle.bearer.specs.Keeper.{index_of}
 use Rattle.bearer.proofs.Lists.Mapped.{front_none}
 use Rattle.keeper_loss.specs.Tally.{found}
@@ -65,3 +67,21 @@ first_place n ns = is_position_or_len (index_of n) (λ (m : ℕ). eqb m n) refl 
 
 pub found_is : (n : ℕ) (ns : List ℕ) → position (λ m. eqb m n) ns ≡ found n ns
 found_is n ns = rw (first_place n ns)
+
+-- ---- how far the first number can be
+
+module _ (M base : ℕ) (pos : 0 < M) where
+  pub first_below : (ns : List ℕ) → first_behind M base ns < M
+  first_below [] = pos
+  first_below (n ∷ ns) = by_test (before M base n)
+    where
+      by_test : (t : Bool) → (if t then forward M n base else 0) < M
+      by_test true = forward_below M pos n base
+      by_test false = pos
+
+-- ---- stores past the end
+
+-- past the end nothing is stored
+pub sets_out : (a : List ℕ) (i : ℕ) (vs : List ℕ) → length a ≤ i → sets a i vs ≡ a
+sets_out a i [] h = refl
+sets_out a i (v ∷ vs) h = rw (set_out a i v h) (sets_out a (suc i) vs (omega arith))

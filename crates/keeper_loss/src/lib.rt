@@ -156,15 +156,23 @@ impl Point {
     pub fn given_up(self, numbers: &[u32], limit: u32) -> GivenUp
         ensures { result ≡ told («gaps_of» 0 limit (offsets (modulus self.long) self.at numbers.now)) }
     {
-        let mut sum = GivenUp {
-            gaps: 0,
-            numbers: 0,
-            first: None,
+        let mut gaps = self.gaps(numbers, limit);
+        let Some(first) = gaps.next() else {
+            return GivenUp {
+                gaps: 0,
+                numbers: 0,
+                first: None,
+            };
         };
-        for gap in self.gaps(numbers, limit) {
+        // Once and not at each gap: with `or` in the loop an expiry of 128 gaps took a quarter more instructions.
+        let mut sum = GivenUp {
+            gaps: 1,
+            numbers: first.to - first.from,
+            first: Some(first.from),
+        };
+        for gap in gaps {
             sum.gaps += 1;
             sum.numbers += gap.to - gap.from;
-            sum.first = sum.first.or(Some(gap.from));
         }
         sum
     }

@@ -16,7 +16,7 @@ some_news [] records h = absurd (omega arith)
 some_news (run ∷ runs) records h = refl
 
 -- where none is, the first record tells
-first_news : (runs : List Range) (records : List Record) → length runs ≡ 0 → news runs records ≡ first_confirmed records
+pub first_news : (runs : List Range) (records : List Record) → length runs ≡ 0 → news runs records ≡ first_confirmed records
 first_news [] records e = refl
 first_news (run ∷ runs) records e = absurd (omega arith)
 

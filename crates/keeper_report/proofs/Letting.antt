@@ -43,6 +43,19 @@ run_is M ss (n ∷ ns) (p ∷ ps) (c ∷ cs) lp lc = by_test (goes_before M ss n
     by_test true e = omega arith
     by_test false e = refl
 
+-- where no run is left out, marks alone say what goes
+marks_run : (M : ℕ) (ss ns cs : List ℕ) → length ss ≡ 0 → length cs ≡ length ns → prefix_len is_set cs ≡ prefix_len (goes M ss) (zip ns cs)
+marks_run M (s ∷ ss) ns cs none same = absurd (omega arith)
+marks_run M [] [] [] none same = refl
+marks_run M [] [] (c ∷ cs) none same = absurd (omega arith)
+marks_run M [] (n ∷ ns) [] none same = absurd (omega arith)
+marks_run M [] (n ∷ ns) (c ∷ cs) none same = ap (λ (i : ℕ). cond (is_set c) (1 + i) 0) (marks_run M [] ns cs refl (omega arith))
+
+pub marks_say : (M : ℕ) (ss ns cs : List ℕ) → length ss ≡ 0 → length cs ≡ length ns
+    → length (take_while is_set cs) ≡ length (take_while (goes M ss) (zip ns cs))
+marks_say M ss ns cs none same =
+    length-prefix_len is_set cs ∙ marks_run M ss ns cs none same ∙ sym (length-prefix_len (goes M ss) (zip ns cs))
+
 module _ (h : Held) where
   -- the starts of the runs left out
   left_out : drop (min most_ranges (length h.starts.now)) h.starts.now ≡ starts_of (drop most_ranges (state_shown h).runs)

@@ -1,3 +1,4 @@
 pub mod Confirming
 pub mod Letting
+pub mod LeftOut
 pub mod Asking

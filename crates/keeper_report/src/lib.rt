@@ -76,14 +76,28 @@ pub fn has_news(held: &Held<'_>) -> bool
 
 // ---- status
 
-// How many records a status lets go: those at the front that may go, one after another.
+// How many records a status lets go: those at the front that may go, one after another. Where no run is left out their marks alone say it.
 fn going(numbers: &[u32], marks: &[u32], left_out: &[u32], long: bool) -> usize
+    requires { length marks.now ≡ length numbers.now }
     ensures { result ≡ length (take_while (goes (modulus long) left_out.now) (zip numbers.now marks.now)) }
 {
+    if left_out.is_empty() {
+        return marked(marks);
+    }
     numbers
         .iter()
         .zip(marks)
         .take_while(|&(&number, &mark)| may_go(left_out, long, number, mark))
+        .count()
+}
+
+// How many marks at the front are set, one after another.
+fn marked(marks: &[u32]) -> usize
+    ensures { result ≡ length (take_while is_set marks.now) }
+{
+    marks
+        .iter()
+        .take_while(|&&mark| basics::is_set(mark))
         .count()
 }
 

@@ -1,8 +1,8 @@
 -- A word that doesn't say open is a closed end's; and what the words say that calls write.
 -- Assumes nothing.
-use mathlib.Core.Path.{◌≡◌}
-use mathlib.Core.Bool.{false, not}
-use mathlib.Core.Logic.{◌⊎◌, ⊎_elim}
+use mathlib.Core.Path.{◌≡◌, refl}
+use mathlib.Core.Bool.{Bool, true, false, not}
+use mathlib.Core.Logic.{◌⊎◌, inl, inr, ⊎_elim}
 use Prim.Native.Nat.{ℕ}
 use native.Mathlib.Omega.{arith}
 use borrow.Author.Tests.{ne_eqb}
@@ -22,6 +22,16 @@ unopened_asks_9 w ns ps cs ss es h =
 pub zero_is_unopened : ZeroIsUnopened
 zero_is_unopened w h e = omega arith
 
--- each of the two words that are written is what it says
+-- the word that is written says what it is to say
+pub opened_said : (closed : Bool) → not (is_open (opened_word closed)) ≡ closed
+opened_said true = refl
+opened_said false = refl
+
+-- it is one of two
+pub opened_written : (closed : Bool) → (opened_word closed ≡ open_word) ⊎ (opened_word closed ≡ 0)
+opened_written true = inr refl
+opened_written false = inl refl
+
+-- and each of the two is what it says
 pub opened_own : (word : ℕ) → (word ≡ open_word) ⊎ (word ≡ 0) → opened_word (not (is_open word)) ≡ word
 opened_own word is = ⊎_elim (λ e. rw e) (λ e. rw e) is

@@ -3,14 +3,24 @@
 #![tactic(auto)]
 
 ghost use Rattle.std.specs.Prelude.{◌≡◌, ◌≤◌, length, take};
-ghost use Rattle.keeper_state.specs.State.{is_open as «is_open_of», opened_word as «opened_word_of», held_in, listed_in, words_in, words_of, HeldSizes, ListedSizes, arrays, keeper_in};
+ghost use Rattle.keeper_state.specs.State.{is_open as «is_open_of», opened_word as «opened_word_of», ◌saying_base◌, ◌saying_reported◌, ◌saying_opened◌, ◌saying_runs◌, ◌saying_records◌, held_in, listed_in, words_in, words_of, HeldSizes, ListedSizes, arrays, keeper_in};
 
 pub const MOST_RUNS: usize = 256;
 
 pub const MOST_RECORDS: usize = 512;
 
-// How many words there are.
+// How many words there are, and where those stand that calls change.
 const WORDS: usize = 6;
+
+const BASE: usize = 1;
+
+const REPORTED: usize = 2;
+
+const OPENED: usize = 3;
+
+const RUNS: usize = 4;
+
+const RECORDS: usize = 5;
 
 // The lent arrays: a number of each record, one of each listed run, and the words.
 pub type RecordArray = [u32; MOST_RECORDS];
@@ -88,6 +98,39 @@ pub fn opened_word(closed: bool) -> u32
 {
     if closed { 0 } else { OPEN }
 }
+
+// ---- the words that calls change: each is stored alone
+
+// Base.
+pub fn store_base(words: &mut WordArray, base: u32)
+    ensures { words.new ≡ words_of (words_in words.old saying_base base) }
+{
+    words[BASE] = base;
+}
+
+// How many runs are listed.
+pub fn store_runs(words: &mut WordArray, runs: u32)
+    ensures { words.new ≡ words_of (words_in words.old saying_runs runs) }
+{
+    words[RUNS] = runs;
+}
+
+// How many records are held.
+pub fn store_records(words: &mut WordArray, records: u32)
+    ensures { words.new ≡ words_of (words_in words.old saying_records records) }
+{
+    words[RECORDS] = records;
+}
+
+// The reported highest, and whether the end is closed.
+pub fn store_reported(words: &mut WordArray, reported: u32, closed: bool)
+    ensures { words.new ≡ words_of (words_in words.old saying_reported reported saying_opened «opened_word_of» closed) }
+{
+    words[REPORTED] = reported;
+    words[OPENED] = opened_word(closed);
+}
+
+// ---- the arrays
 
 // The lent arrays of an end, changed in place. C lends six arrays, with the counts among the words (include/x2u.h), so they stay arrays side by side.
 #[derive(Drop)]

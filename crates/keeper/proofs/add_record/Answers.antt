@@ -42,6 +42,6 @@ returns c =
     (omega (arith, sizes.numbers)) (omega (arith, sizes.pdcps)) (omega (arith, sizes.marks)) c.put_in.ensures c.put_in-2.ensures c.put_in-3.ensures in
     record {
       loans = (refl, refl, refl, refl, refl, refl);
-      state = rw c.into-state.ensures (records_become c.held.ensures.shows.words s.numbers.now s.pdcps.now s.marks.now _ _ _ s.starts.now s.ends.now (c.held-held.result + 1) _ records);
-      plain = λ p. rw c.into-state.ensures (added_plain c.held.ensures.shows.words c.held-held.result c.args.place (omega (arith, held h, p.records.within)) at.1 c.put_in-3.ensures p);
+      state = rw c.store_records.ensures (records_become {w = words_in s.words.now} refl s.numbers.now s.pdcps.now s.marks.now _ _ _ s.starts.now s.ends.now (c.held-held.result + 1) _ records);
+      plain = λ p. rw c.store_records.ensures (added_plain {w = words_in s.words.now} refl c.held-held.result c.args.place (omega (arith, held h, p.records.within)) at.1 c.put_in-3.ensures p);
     }

@@ -26,7 +26,7 @@ returns c =
     record {
       loans = (refl, refl, refl, refl, refl, refl);
       state =
-          rw c.into-state.ensures
-          (records_become c.held.ensures.shows.words s.numbers.now s.pdcps.now s.marks.now _ _ _ s.starts.now s.ends.now (c.held-held.result - c.args.gone) _ records);
-      plain = λ p. rw c.into-state.ensures (dropped_plain c.held.ensures.shows.words c.held-held.result c.args.gone (omega (arith, held h, p.records.within)) c.take_off-3.ensures p);
+          rw c.store_records.ensures
+          (records_become {w = words_in s.words.now} refl s.numbers.now s.pdcps.now s.marks.now _ _ _ s.starts.now s.ends.now (c.held-held.result - c.args.gone) _ records);
+      plain = λ p. rw c.store_records.ensures (dropped_plain {w = words_in s.words.now} refl c.held-held.result c.args.gone (omega (arith, held h, p.records.within)) c.take_off-3.ensures p);
     }

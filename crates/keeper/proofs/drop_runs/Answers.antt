@@ -13,7 +13,7 @@ returns c =
     record {
       loans = (refl, refl, refl, refl, refl, refl);
       state =
-          rw c.into-state.ensures
-          (runs_become c.held.ensures.shows.words s.numbers.now s.pdcps.now s.marks.now s.starts.now s.ends.now _ _ (c.listed-listed.result - c.min-carried.result) _ runs);
-      plain = λ p. rw c.into-state.ensures (runs_plain c.held.ensures.shows.words s.marks.now (c.listed-listed.result - c.min-carried.result) (omega (arith, listed)) p);
+          rw c.store_runs.ensures
+          (runs_become {w = words_in s.words.now} refl s.numbers.now s.pdcps.now s.marks.now s.starts.now s.ends.now _ _ (c.listed-listed.result - c.min-carried.result) _ runs);
+      plain = λ p. rw c.store_runs.ensures (runs_plain {w = words_in s.words.now} refl s.marks.now (c.listed-listed.result - c.min-carried.result) (omega (arith, listed)) p);
     }

@@ -1,11 +1,11 @@
 -- `list_lost`: what is held and listed is passed on, as much as the words say. Assumes nothing.
-use Rattle.std.proofs.Common.{◌≡◌, refl, sym, ◌∙◌, ap, arith, ℕ, take, min}
-use Rattle.bearer.specs.Keeper.{held, runs_after, ◌with_runs◌}
+use Rattle.std.proofs.Common.{◌≡◌, refl, sym, ◌∙◌, ap, arith, ℕ, zero, suc, List, [], ◌∷◌, length, take, min}
+use Rattle.bearer.specs.Keeper.{Keeper, held, runs_after}
 use Rattle.frame_layout.specs.Frames.{ranges_of}
 use Rattle.bearer.specs.Bearer.{most_runs}
 use Rattle.circle.specs.Lengths.{modulus_of}
 use Rattle.bearer.specs.Losses.{above_base}
-use Rattle.keeper_state.specs.declared.State.{State}
+use Rattle.keeper_state.specs.State.{words_in, listed_in}
 use Rattle.keeper_state.specs.Lent.{keeper_of}
 use Rattle.keeper_loss.proofs.Bounds.{gaps_none}
 use Rattle.keeper_state.proofs.Showing.{numbers_shown}
@@ -23,13 +23,29 @@ numbers c =
     ∙ ap held c.held.ensures.state
 
 -- below the distance 0 nothing is lost
-none : (s : State) → keeper_of s ≡ (keeper_of s with_runs runs_after (keeper_of s) 0)
-none s =
-    let k = keeper_of s in
-    rw (gaps_none 0 0 (above_base (modulus_of k.bits) k.base (held k)) (omega arith))
+none : (k : Keeper) → runs_after k 0 ≡ k.runs
+none k = rw (gaps_none 0 0 (above_base (modulus_of k.bits) k.base (held k)) (omega arith))
+
+-- as many at the front as those at the front are
+take_own : {A : Type 0} (n : ℕ) (l : List A) → take (length (take n l)) l ≡ take n l
+take_own zero l = refl
+take_own (suc n) [] = refl
+take_own (suc n) (x ∷ l) = ap (λ l. x ∷ l) (take_own n l)
 
 pub returns-then-lost-eq0 : goal.returns-then-lost-eq0
-returns-then-lost-eq0 c = record { loans = (refl, refl, refl, refl, refl, refl); state = rw c.if-lost-eq0.true (none c.args.state.now); plain = λ p. p }
+returns-then-lost-eq0 c =
+    let s = c.args.state.now in
+    let w = words_in s.words.now in
+    let k = keeper_of s in
+    let few : min c.args.lost.runs most_runs ≡ c.args.lost.runs = omega (arith, c.requires.few) in
+    let same : runs_after k c.args.lost.limit ≡ k.runs = rw c.if-lost-eq0.true (none k) in
+    let runs : take (min c.args.lost.runs most_runs) (ranges_of s.starts.now s.ends.now) ≡ runs_after k c.args.lost.limit =
+    rw (few, c.requires.losing.runs_are, same) (take_own (listed_in w) (ranges_of s.starts.now s.ends.now)) in
+    record {
+      loans = (refl, refl, refl, refl, refl, refl);
+      state = rw c.store_runs.ensures (runs_become {w = w} refl s.numbers.now s.pdcps.now s.marks.now s.starts.now s.ends.now _ _ c.args.lost.runs _ runs);
+      plain = λ p. rw c.store_runs.ensures (runs_plain {w = w} refl s.marks.now c.args.lost.runs c.requires.few p);
+    }
 
 pub list_runs-requires : goal.list_runs-requires
 list_runs-requires c =
@@ -47,6 +63,6 @@ returns c =
     rw few (c.list_runs.ensures ∙ rw (c.from.ensures, n, c.listed.ensures, w)) in
     record {
       loans = (refl, refl, refl, refl, refl, refl);
-      state = rw c.into-state.ensures (runs_become w s.numbers.now s.pdcps.now s.marks.now s.starts.now s.ends.now _ _ c.args.lost.runs _ runs);
-      plain = λ p. rw c.into-state.ensures (runs_plain w s.marks.now c.args.lost.runs c.requires.few p);
+      state = rw c.store_runs-2.ensures (runs_become {w = words_in s.words.now} refl s.numbers.now s.pdcps.now s.marks.now s.starts.now s.ends.now _ _ c.args.lost.runs _ runs);
+      plain = λ p. rw c.store_runs-2.ensures (runs_plain {w = words_in s.words.now} refl s.marks.now c.args.lost.runs c.requires.few p);
     }

@@ -10,9 +10,9 @@ use Rattle.keeper_loss.proofs.Point.given_up.Goals as goal
 pub overflow_add-sum : goal.overflow_add-sum
 overflow_add-sum c =
     let a = c.args in
-    omega (arith, gaps_count 0 a.limit (offsets (modulus a.self.long) a.self.at a.numbers.now), length-map a.numbers.now (forward (modulus a.self.long) a.self.at), ap length c.in-Some.ensures.steps, c.well_formed)
+    omega (arith, gaps_count 0 a.limit (offsets (modulus a.self.long) a.self.at a.numbers.now), length-map a.numbers.now (forward (modulus a.self.long) a.self.at), ap length c.in-Some-gap.ensures.steps, c.well_formed)
 
 pub overflow_add-sum-in-loop-gap : goal.overflow_add-sum-in-loop-gap
 overflow_add-sum-in-loop-gap c =
     let a = c.args in
-    omega (arith, gaps_size 0 a.limit (offsets (modulus a.self.long) a.self.at a.numbers.now), ap size_of c.in-Some.ensures.steps)
+    omega (arith, gaps_size 0 a.limit (offsets (modulus a.self.long) a.self.at a.numbers.now), ap size_of c.in-Some-gap.ensures.steps)

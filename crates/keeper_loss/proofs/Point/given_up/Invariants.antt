@@ -1,6 +1,5 @@
 -- `Point::given_up`: what is told so far, with the gaps that are left, is what all gaps tell. Assumes nothing.
 use Rattle.std.proofs.Common.{◌≡◌, ◌+◌, List, length}
-use Rattle.std.specs.Option.{option_or}
 use Rattle.circle.specs.Lengths.{modulus}
 use Rattle.bearer.specs.Losses.{Gap, offsets, gaps, size_of}
 use Rattle.keeper_loss.specs.Tally.{gaps_left, first_from}
@@ -13,5 +12,5 @@ invariant-loop-gap l =
     record {
       gaps : l.sum.gaps + length left ≡ length all;
       numbers : l.sum.numbers + size_of left ≡ size_of all;
-      first : option_or l.sum.first (first_from left) ≡ first_from all;
+      first : l.sum.first ≡ first_from all;
     }
