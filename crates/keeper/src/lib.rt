@@ -181,7 +181,8 @@ fn report(state: &mut State<'_>, highest: u32, last: bool)
 
 // ---- runs
 
-// Lists what is lost behind the runs that are listed.
+// Lists what is lost behind the runs that are listed. Inlined, as `keeper_judge::lost_below` is: every arrival comes here.
+#[inline(always)]
 fn list_lost(state: &mut State<'_>, lost: Losses)
     requires { Loses lost (keeper_of state.old) }
     ensures { Becomes state.old state.new (keeper_of state.old with_runs runs_after (keeper_of state.old) lost.limit) }
