@@ -112,12 +112,15 @@ impl Output<'_> {
         self.text(&[c]);
     }
 
-    // Lays a number so, in decimal.
-    #[tactic(auto, using(crate::proofs::Decimal::standard_decimal))]
+    // Lays a number so, in decimal: one digit by itself, without the library's buffer, since most numbers of many lines are such.
+    #[tactic(auto, using(crate::proofs::Decimal::standard_decimal, crate::proofs::Decimal::decimal_one))]
     pub fn decimal(&mut self, n: u32)
         ensures { Lays self.old (fitted self.old («decimal_of» n)) self.new }
     {
-        self.text(Buffer::new().format(n).as_bytes());
+        match u8::try_from(n) {
+            Ok(digit @ 0..=9) => self.octet(b'0' + digit),
+            _ => self.text(Buffer::new().format(n).as_bytes()),
+        }
     }
 }
 
