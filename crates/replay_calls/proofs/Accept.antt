@@ -11,8 +11,8 @@ use lib.ListN.{length, drop}
 use borrow.Author.Tests.{eqb-true}
 use Rattle.basics.specs.Basics.{◌and◌, ◌or◌, all}
 use Rattle.lister_text.specs.Texts.{tab}
-use Rattle.lister_text.specs.Hexadecimal.{digit_of, is_digit, bad_count, octets_in, decoded_of}
-use Rattle.replay_calls.specs.Calls.{fields_in, first_field, tabbed_fields, framed, accept_of}
+use Rattle.lister_text.specs.Hexadecimal.{digit_of, is_digit, bad_count, octets_in, decoded_of, decoded_into}
+use Rattle.replay_calls.specs.Calls.{fields_in, first_field, tabbed_fields, framed, accept_of, decoded_behind}
 use Rattle.replay_calls.proofs.Fields.{fields_split, behind, behind_one}
 
 -- octets are one field, or several and no digits
@@ -55,7 +55,13 @@ accept_fields cs = by (shape cs)
     by (one p) = rw p
     by (more f g fs p q) = rw (p, none_read cs q)
 
--- where something stands behind the word
-pub accept_some : (l : List ℕ) → 1 ≤ length l → accept_of (tabbed_fields l) ≡ framed (decoded_of (behind l))
-accept_some [] h = absurd (omega arith)
-accept_some (c ∷ cs) h = rw (behind_one c cs) (accept_fields cs)
+-- where something stands behind the word, what is decoded is read
+pub accept_some : (l frame : List ℕ) → 1 ≤ length l
+    → (accept_of (tabbed_fields l) ≡ framed (decoded_of (drop 1 l))) × (decoded_behind l frame ≡ decoded_into (drop 1 l) frame)
+accept_some [] frame h = absurd (omega arith)
+accept_some (c ∷ cs) frame h = (accept_fields cs, refl)
+
+-- as the code takes it
+pub accept_behind : (l : List ℕ) → 1 ≤ length l → accept_of (tabbed_fields l) ≡ framed (decoded_of (behind l))
+accept_behind [] h = absurd (omega arith)
+accept_behind (c ∷ cs) h = rw (behind_one c cs) (accept_fields cs)

@@ -1,13 +1,12 @@
 // Calls on the master, played on its ledger, and the line of each answer laid on an output.
 #![tactic(auto)]
 
-ghost use Rattle.std.specs.Prelude.{◌≡◌, Some, is_some};
+ghost use Rattle.std.specs.Prelude.{Some};
 ghost use Rattle.bearer.specs.Keeper.{«Keeper» as «Secondary»};
 ghost use Rattle.ledger.specs.View.{ledger_in};
 ghost use Rattle.replay_calls.specs.declared.Call.TheVariants.{Ledger as «OnLedger»};
 ghost use Rattle.replay_ends.specs.Steps.{play_ledger as «play_ledger_of»};
 ghost use Rattle.replay_ends.specs.Playing.{ends_of, Plays, PlaysInto};
-ghost use Rattle.replay_ends.specs.Held.{master_in};
 
 use frame_layout::FrameArray;
 use ledger::Ledger;
@@ -51,20 +50,20 @@ fn step(call: LedgerCall, frame: &[u8], ledger: &mut Ledger, out: &mut Output<'_
     }
 }
 
-// A call on the master, and the line of its answer. Without room for any line nothing changes.
+// A call on the master, and the line of its answer. Without room for any line nothing changes. Whether the ends are open is told beside the
+// ledger: they are once an open was accepted, and the ledger's own word goes with Final.
 pub fn play_ledger(
     call: LedgerCall,
     frame: &FrameArray,
-    ledger: &mut Option<Ledger>,
+    opened: bool,
+    ledger: &mut Ledger,
     out: &mut Output<'_>,
 )
-    ensures { (k : «Secondary») → PlaysInto (ends_of (is_some ledger.old) k (master_in ledger.old)) (Some («OnLedger» call)) frame.now out.old (ends_of (is_some ledger.new) k (master_in ledger.new)) out.new }
+    ensures { (k : «Secondary») → PlaysInto (ends_of opened k (ledger_in ledger.old)) (Some («OnLedger» call)) frame.now out.old (ends_of opened k (ledger_in ledger.new)) out.new }
 {
-    let Some(ledger) = ledger else {
+    if !opened {
         lay_answer(Answer::Unopened, out);
-        return;
-    };
-    if replay_states::has_room(out) {
+    } else if replay_states::has_room(out) {
         step(call, frame, ledger, out);
     }
 }

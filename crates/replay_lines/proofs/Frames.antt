@@ -24,7 +24,7 @@ use Rattle.replay_calls.specs.declared.Call.{Call}
 use Rattle.replay_calls.specs.declared.Call.TheVariants.{Ledger}
 use Rattle.replay_calls.specs.declared.LedgerCall.TheVariants.{Accept}
 use Rattle.replay_calls.proofs.Accept.{accept_some}
-use Rattle.replay_calls.proofs.Fields.{fields_split, behind_one}
+use Rattle.replay_calls.proofs.Fields.{fields_split}
 use Rattle.replay_answers.specs.declared.Answer as A
 use Rattle.replay_ends.specs.Steps.{answered, following, freed_answer}
 use Rattle.replay_ends.specs.Playing.{Ends, ends_with_ledger, in_place, play}
@@ -86,7 +86,7 @@ module _ (e : Ends) (f g : List ℕ) (f-size : length f ≡ most_octets) (g-size
 
   accept_alike : (behind : List ℕ) → Alike (accept_of (tabbed_fields behind)) (decoded_behind behind f) (decoded_behind behind g)
   accept_alike [] = refl
-  accept_alike (t ∷ cs) = rw (accept_some (t ∷ cs) (omega arith), behind_one t cs) (decoded_alike cs)
+  accept_alike (t ∷ cs) = rw (accept_some (t ∷ cs) f (omega arith)).0 (decoded_alike cs)
 
   -- so what an earlier line left in it changes nothing
   pub frames_alike : (l : List ℕ) → Alike (read_call l) (frame_after l f) (frame_after l g)

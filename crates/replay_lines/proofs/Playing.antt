@@ -1,13 +1,30 @@
 -- A line played into an output is answered as the script has it.
 -- Assumes nothing.
-use Rattle.std.proofs.Common.{◌≡◌, ℕ, ◌+◌, List, length, ap, le-leb}
+use Rattle.std.proofs.Common.{◌≡◌, ℕ, ◌+◌, List, length, replicate, ap, ◌∙◌, le-leb}
+use Rattle.std.specs.Prelude.{leb, if◌then◌else◌}
+use Rattle.std.proofs.lemmas.List.{length-replicate}
+use Rattle.frame_layout.specs.Frames.{most_octets}
 use Rattle.lister_text.specs.declared.Output.{Output}
 use Rattle.lister_text.specs.Outputs.{HasRoom}
 use Rattle.program_lines.specs.Feeding.{Said}
-use Rattle.replay_calls.specs.Calls.{read_call}
+use Rattle.replay_calls.specs.Calls.{read_call, frame_after}
 use Rattle.replay_states.specs.Lines.{most_text}
+use Rattle.replay_ends.specs.Steps.{Step}
 use Rattle.replay_ends.specs.Playing.{Ends, Played, laying, play_into, PlaysInto}
 use Rattle.replay_lines.specs.Scripts.{frame_in, play_line, replaying}
+use Rattle.replay_lines.proofs.Frames.{frames_alike}
+
+-- whatever an earlier line left in the frame's buffer
+pub frame_plays : {e e' : Ends} {o p : Output} (l frame : List ℕ) → length frame ≡ most_octets → PlaysInto e (read_call l) (frame_after l frame) o e' p
+    → PlaysInto e (read_call l) (frame_in l) o e' p
+unfolding play_into
+frame_plays {e} {e'} {o} {p} l frame size x =
+    let same = frames_alike e frame (replicate most_octets 0) size (length-replicate {A = ℕ} most_octets 0) l in
+    record {
+      loan = x.loan;
+      after = x.after ∙ ap (λ (s : Step Ends). if leb (o.at + most_text) (length o.octets.now) then laying s o.octets.now o.at else record { ends = e; out = o.octets.now; at = o.at }) same;
+      within = x.within;
+    }
 
 -- with room, what was played is what the line says
 room_plays : {e e' : Ends} {o p : Output} (l : List ℕ) → HasRoom o most_text → PlaysInto e (read_call l) (frame_in l) o e' p

@@ -13,7 +13,7 @@ use Rattle.replay_ends.specs.Steps.{Step, answered}
 use Rattle.replay_ends.specs.Playing.{Ends, play}
 use Rattle.replay_lines.specs.Scripts.{frame_in, play_line, replaying}
 
-line_kept : (e : Ends) (l : List ℕ) → play_line e (kept replaying l) ≡ play_line e l
+pub line_kept : (e : Ends) (l : List ℕ) → play_line e (kept replaying l) ≡ play_line e l
 unfolding play_line
 line_kept e =
     front_answers (λ (l : List ℕ). play e (read_call l) (frame_in l)) (answered e A.TheVariants.Unreadable) most_line

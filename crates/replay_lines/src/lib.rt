@@ -2,11 +2,12 @@
 // crate program_lines's.
 #![tactic(auto)]
 
-ghost use Rattle.std.specs.Prelude.{◌≡◌, false};
-ghost use Rattle.keeper_state.specs.Lent.{SameLoans};
+ghost use Rattle.std.specs.Prelude.{◌≡◌, true, false};
+ghost use Rattle.bearer.specs.Ledger.{fresh};
+ghost use Rattle.keeper_state.specs.Lent.{keeper_of, SameLoans};
+ghost use Rattle.ledger.specs.View.{ledger_in};
 ghost use Rattle.replay_states.specs.Lines.{most_text};
-ghost use Rattle.replay_ends.specs.Playing.{Ends, PlaysInto};
-ghost use Rattle.replay_ends.specs.Held.{ends_in};
+ghost use Rattle.replay_ends.specs.Playing.{Ends, ends_of, PlaysInto};
 ghost use Rattle.replay_lines.specs.Scripts.{replaying};
 ghost use Rattle.replay_lines.specs.Held.{ends_of_script, script_laws};
 
@@ -20,8 +21,8 @@ use replay_ends::{play_open, play_unreadable};
 
 pub const MOST_HELD: usize = 2044; // of a line: one octet more than the longest call has, which shows that it is none
 
-// Both ends between two lines: the secondary's arrays, and the master's ledger, which there is once an open was accepted. There is no heap: the
-// arrays are the script's own, side by side as a State borrows them.
+// Both ends between two lines: the secondary's arrays, the master's ledger, and whether an open of them was accepted; and room for a frame. There
+// is no heap: the arrays are the script's own, side by side as a State borrows them.
 #[derive(Drop)]
 pub struct Script {
     pub numbers: RecordArray,
@@ -30,13 +31,16 @@ pub struct Script {
     pub starts: RunArray,
     pub ends: RunArray,
     pub words: WordArray,
-    pub ledger: Option<Ledger>,
+    pub opened: bool,
+    pub ledger: Ledger,
+    pub frame: FrameArray,
 }
 
 impl Script {
-    // Before the first line neither end is open.
+    // Before the first line neither end is open, and the master's is closed and empty.
     pub fn new() -> Script
-        ensures { (ends_of_script result).opened ≡ false }
+        ensures unopened { (ends_of_script result).opened ≡ false }
+        ensures empty { (ends_of_script result).ledger ≡ fresh 18 0 0 true }
     {
         Script {
             numbers: [0; MOST_RECORDS],
@@ -45,7 +49,9 @@ impl Script {
             starts: [0; MOST_RUNS],
             ends: [0; MOST_RUNS],
             words: [0; 6],
-            ledger: None,
+            opened: false,
+            ledger: Ledger::closed(),
+            frame: [0; MOST_OCTETS],
         }
     }
 }
@@ -55,17 +61,18 @@ fn play(
     call: Option<Call>,
     frame: &FrameArray,
     state: &mut State<'_>,
-    ledger: &mut Option<Ledger>,
+    opened: &mut bool,
+    ledger: &mut Ledger,
     out: &mut Output<'_>,
 )
     ensures loans { SameLoans state.old state.new }
-    ensures plays { PlaysInto (ends_in state.old ledger.old) call frame.now out.old (ends_in state.new ledger.new) out.new }
+    ensures plays { PlaysInto (ends_of opened.old (keeper_of state.old) (ledger_in ledger.old)) call frame.now out.old (ends_of opened.new (keeper_of state.new) (ledger_in ledger.new)) out.new }
 {
     match call {
         None => play_unreadable(out),
-        Some(Call::Open(o)) => play_open(o, state, ledger, out),
-        Some(Call::Keeper(c)) => replay_keeper::play_keeper(c, state, ledger.is_some(), out),
-        Some(Call::Ledger(c)) => replay_ledger::play_ledger(c, frame, ledger, out),
+        Some(Call::Open(o)) => play_open(o, state, opened, ledger, out),
+        Some(Call::Keeper(c)) => replay_keeper::play_keeper(c, state, *opened, out),
+        Some(Call::Ledger(c)) => replay_ledger::play_ledger(c, frame, *opened, ledger, out),
     }
 }
 
@@ -81,8 +88,7 @@ impl AnswersLines<MOST_HELD> for Script {
     ghost MOST_TEXT = { most_text };
 
     fn answer(&mut self, line: &[u8], out: &mut Output<'_>) {
-        let mut frame = [0u8; MOST_OCTETS];
-        let call = replay_calls::read_call(line, &mut frame);
+        let call = replay_calls::read_call(line, &mut self.frame);
         let mut state = State {
             numbers: &mut self.numbers,
             pdcps: &mut self.pdcps,
@@ -91,7 +97,14 @@ impl AnswersLines<MOST_HELD> for Script {
             ends: &mut self.ends,
             words: &mut self.words,
         };
-        play(call, &frame, &mut state, &mut self.ledger, out);
+        play(
+            call,
+            &self.frame,
+            &mut state,
+            &mut self.opened,
+            &mut self.ledger,
+            out,
+        );
     }
 
     ghost laws = { script_laws };

@@ -9,4 +9,4 @@ use Rattle.replay.proofs.play_all.Goals as goal
 pub returns : goal.returns
 returns g c e shut =
     let first = ends_of_script c.new.result in
-    ran_alike first e c.new.ensures shut (ran_told replaying first line_tells (rw c.new-2.ensures at c.run.ensures))
+    ran_alike first e c.new.ensures.unopened shut (ran_told replaying first line_tells (rw c.new-2.ensures at c.run.ensures))

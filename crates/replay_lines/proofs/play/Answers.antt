@@ -3,7 +3,7 @@ use Rattle.std.proofs.Common.{◌≡◌, ap, ◌∙◌}
 use Rattle.std.specs.Prelude.{Some}
 use Rattle.replay_calls.specs.declared.Call.TheVariants.{Open, Keeper, Ledger}
 use Rattle.keeper_state.specs.Lent.{keeper_of}
-use Rattle.replay_ends.specs.Held.{master_in}
+use Rattle.ledger.specs.View.{ledger_in}
 use Rattle.replay_lines.proofs.play.Goals as goal
 
 pub returns-in-None-clause-plays : goal.returns-in-None-clause-plays
@@ -17,7 +17,7 @@ returns-in-Some-Open-clause-plays c =
 pub returns-in-Some-Keeper-clause-plays : goal.returns-in-Some-Keeper-clause-plays
 returns-in-Some-Keeper-clause-plays c =
     let is : c.args.call ≡ Some (Keeper c.in-Some-Keeper.c) = c.in-Some-Keeper.is ∙ ap Some (rw c.in-Some-Keeper.is at c.in-Some-Keeper.field-0-is) in
-    rw is (rw c.is_some.ensures at (c.play_keeper.ensures.plays (master_in c.args.ledger.now) c.args.frame.now))
+    rw is (c.play_keeper.ensures.plays (ledger_in c.args.ledger.now) c.args.frame.now)
 
 pub returns-in-Some-Ledger-clause-plays : goal.returns-in-Some-Ledger-clause-plays
 returns-in-Some-Ledger-clause-plays c =
