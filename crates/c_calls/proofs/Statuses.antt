@@ -14,7 +14,7 @@ use Rattle.frame_reader.specs.Answers.{reading_of, there}
 use Rattle.frame_reader.proofs.Walk.{before, stands, all_there}
 use Rattle.basics.proofs.Apart.{apart}
 use Rattle.c_calls.specs.Boundary.{fields_of, ranges_in, answer_of, itself, minus, type_of, leaves, begins}
-use Rattle.c_calls.specs.Looks.{kind_of, first_of}
+use Rattle.c_calls.specs.Looks.{kind_of, before_first}
 
 -- the count in a status's head is how many ranges it has
 pub status_fields_lem : (s old : List ℕ) (h : Head) → 0 ∷ h.highest ∷ h.desired ∷ h.minimum ∷ bit h.last ∷ h.count ∷ [] ≡ fields_of old (reading_of s (read.Status h))
@@ -37,7 +37,7 @@ form_before b st is = rw is
 
 -- by its type
 type_there : (s : List ℕ) (k : FrameType) (b : Bool) (st : Status) → read_frame s ≡ status_of st → st.long ≡ b → number_of k ≡ status_type b
-    → there_from s (first_of k (length st.ranges)) ≡ st.ranges
+    → there_from s (before_first k (length st.ranges)) ≡ st.ranges
 type_there s kind.Data true st e is t = absurd (omega (arith, t))
 type_there s kind.Data false st e is t = absurd (omega (arith, t))
 type_there s kind.Status true st e is t = absurd (omega (arith, t))
@@ -49,7 +49,7 @@ type_there s kind.LongData false st e is t = absurd (omega (arith, t))
 
 -- by what a look tells, the ranges are there
 pub listed : (s old : List ℕ) (r : Reading) (k : FrameType) → read_frame s ≡ r → done (number_of k) ≡ kind_of r
-    → there_from s (first_of k (get_or (fields_of old r) 5 0)) ≡ ranges_in r
+    → there_from s (before_first k (get_or (fields_of old r) 5 0)) ≡ ranges_in r
 listed s old (data_of b n) kind.Data e t = refl
 listed s old (data_of b n) kind.LongData e t = refl
 listed s old (data_of true n) kind.Status e t = apart (cc)

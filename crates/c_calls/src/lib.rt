@@ -6,7 +6,7 @@
 // passes through memory.
 #![tactic(auto)]
 
-ghost use Rattle.std.specs.Prelude.{◌≡◌, ℕ, ◌^◌, ◌<◌, min, pos, negsuc};
+ghost use Rattle.std.specs.Prelude.{◌≡◌, ℕ, ◌^◌, ◌<◌, ◌≤◌, min, ℤ, pos, negsuc, Some, None, if◌then◌else◌};
 ghost use Rattle.basics.specs.Basics.{bit, is_set};
 ghost use Rattle.frame_layout.specs.Frames.{read_frame};
 ghost use Rattle.frame_layout.specs.Types.{number_of};
@@ -14,8 +14,8 @@ ghost use Rattle.refusal.specs.Numbers.{answer_of};
 ghost use Rattle.bearer.specs.Keeper.{open_keeper, arrive, expire, confirm, status, anything};
 ghost use Rattle.keeper.specs.View.{keeper_in, opens_into, arrays};
 ghost use Rattle.keeper.specs.Plain.{Plain};
-ghost use Rattle.c_calls.specs.Boundary.{counts, settles, reports, tells, most_answer, leaves, said, fields_of, reads, cursor_in as «cursor_in_of», words_of as «words_of_of», begins, step_in, steps};
-ghost use Rattle.c_calls.specs.Looks.{kind_of, first_of as «first_of_of»};
+ghost use Rattle.c_calls.specs.Boundary.{counts, settles, reports, tells, most_answer, minus, leaves, said, fields_of, reads, cursor_in as «cursor_in_of», words_of as «words_of_of», begins, step_in, steps};
+ghost use Rattle.c_calls.specs.Looks.{kind_of, is_status as «is_status_of», first_of, before_first as «before_first_of», answer_to};
 
 use frame_layout::FrameType;
 use frame_reader::{Cursor, Frame};
@@ -24,6 +24,8 @@ use keeper_state::Held;
 use refusal::Refusal;
 
 pub const RANGES: usize = 5; // where the count of ranges stands among a frame's fields
+
+const NO_TYPE: u32 = 4; // the kind of a refusal, past every type
 
 // What C lends for a frame's fields (number, highest, desired, minimum, final, ranges), for a cursor, and for a range, by place (include/x2u.h).
 pub type FieldArray = [u32; 6];
@@ -58,20 +60,46 @@ pub fn look(frame: &[u8], fields: &mut FieldArray) -> Result<FrameType, Refusal>
     }
 }
 
-// The cursor before the first of so many ranges of a frame of this type, if it is a status.
-pub fn first_of(kind: FrameType, count: u32) -> Option<Cursor>
-    ensures { result ≡ «first_of_of» kind count }
+// Whether the type of this number is a status's.
+pub fn is_status(kind: u32) -> bool
+    ensures { result ≡ «is_status_of» kind }
 {
-    let long = match kind {
-        FrameType::Status => false,
-        FrameType::LongStatus => true,
-        FrameType::Data | FrameType::LongData => return None,
-    };
-    Some(Cursor {
+    kind == 1 || kind == 2
+}
+
+// The cursor before the first of so many ranges of a status, of the type of this number.
+pub fn first_of(kind: u32, count: u32) -> Cursor
+    ensures { (result ≡ first_of kind count) × (result.place ≤ 13) }
+{
+    let long = kind == 2;
+    Cursor {
         long,
         place: frame_layout::list_at(long),
         left: count,
-    })
+    }
+}
+
+// The same for the number of any type: none where it is no status's.
+fn first_if_status(kind: u32, count: u32) -> Option<Cursor>
+    ensures { result ≡ (if «is_status_of» kind then Some (first_of kind count) else None) }
+{
+    if is_status(kind) {
+        return Some(first_of(kind, count));
+    }
+    None
+}
+
+// The cursor before the first of so many ranges of a frame of this type, if it is a status. Each type has its own call, so that its
+// number is a constant to the compiler: with one call for them all, reading a frame takes up to 9 instructions more.
+pub fn before_first(kind: FrameType, count: u32) -> Option<Cursor>
+    ensures { result ≡ «before_first_of» kind count }
+{
+    match kind {
+        FrameType::Data => first_if_status(FrameType::Data as u32, count),
+        FrameType::Status => first_if_status(FrameType::Status as u32, count),
+        FrameType::LongStatus => first_if_status(FrameType::LongStatus as u32, count),
+        FrameType::LongData => first_if_status(FrameType::LongData as u32, count),
+    }
 }
 
 // Reads a frame: its type, 0 to 3. The fields are the X2-U number of data, and of a status the highest PDCP number, the desired
@@ -91,7 +119,7 @@ pub fn x2u_first_range(frame: &[u8], cursor: &mut CursorArray) -> i64
     let Ok(kind) = seen else {
         return answer(seen);
     };
-    *cursor = match first_of(kind, fields[RANGES]) {
+    *cursor = match before_first(kind, fields[RANGES]) {
         Some(at) => words_of(at),
         None => [0; 3],
     };
@@ -322,18 +350,68 @@ impl Value for usize {
     ghost number = { λ n. min n most_answer };
 
     fn number(self) -> i64 {
-        i64::try_from(self).unwrap_or(i64::MAX)
+        octets(self)
     }
 }
 
-// The answer to a result: its value's number, or minus the number of the refusal.
-pub fn answer<T: Value>(told: Result<T, Refusal>) -> i64
-    ensures { result ≡ said T.number told }
+// A frame's length, as an answer: no more than an answer holds.
+pub fn octets(n: usize) -> i64
+    ensures { result ≡ pos (min n most_answer) }
 {
-    match told {
-        Ok(value) => value.number(),
-        Err(refusal) => -i64::from(u32::from(refusal)),
+    i64::try_from(n).unwrap_or(i64::MAX)
+}
+
+// A refusal n is answered as minus n.
+pub fn refused(n: u32) -> i64
+    ensures { result ≡ minus n }
+{
+    -i64::from(n)
+}
+
+// What a call tells, which one number answers.
+pub trait Told {
+    ghost answer: { Self → ℤ };
+
+    fn answer(self) -> i64
+        ensures { result ≡ answer self };
+}
+
+// A result's value by its number, a refusal by minus its number.
+impl<T: Value> Told for Result<T, Refusal> {
+    ghost answer = { said T.number };
+
+    fn answer(self) -> i64 {
+        match self {
+            Ok(value) => value.number(),
+            Err(refusal) => refused(u32::from(refusal)),
+        }
     }
+}
+
+// What a look tells, as numbers: a type, 0 to 3, or 4 and the number of a refusal.
+#[derive(Drop)]
+pub struct Seen {
+    pub kind: u32,
+    pub refusal: u32,
+}
+
+// A type by itself, a refusal by minus its number.
+impl Told for Seen {
+    ghost answer = { λ seen. answer_to seen.kind seen.refusal };
+
+    fn answer(self) -> i64 {
+        if self.kind < NO_TYPE {
+            return i64::from(self.kind);
+        }
+        refused(self.refusal)
+    }
+}
+
+// The answer to what a call tells.
+pub fn answer<T: Told>(told: T) -> i64
+    ensures { result ≡ T.answer told }
+{
+    told.answer()
 }
 
 // ---- words

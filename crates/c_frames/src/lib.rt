@@ -23,7 +23,7 @@ pub extern "C" fn x2u_read_all(
 {
     let seen = c_calls::look(frame, fields);
     if let Ok(kind) = seen {
-        if let Some(at) = c_calls::first_of(kind, fields[c_calls::RANGES]) {
+        if let Some(at) = c_calls::before_first(kind, fields[c_calls::RANGES]) {
             frame_reader::put_ranges(frame, at, starts, ends);
         }
     }
