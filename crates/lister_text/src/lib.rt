@@ -3,11 +3,10 @@
 #![tactic(auto)]
 
 ghost use Rattle.std.specs.Prelude.{◌≡◌, ◌+◌, ◌<◌, ◌≤◌, ◌∷◌, [], length, nat_le, slice_index, take};
+ghost use Rattle.basics.specs.Laid.{Room, Laid};
 ghost use Rattle.lister_text.specs.Texts.{decimal as «decimal_of», LineEnd};
 ghost use Rattle.lister_text.specs.Outputs.{fitted, Lays};
 ghost use Rattle.lister_text.specs.Hexadecimal.{among, digit_of, octet_said, decoded_of, decoded_into};
-
-use itoa::Buffer;
 
 pub const LINE_FEED: u8 = b'\n';
 
@@ -112,16 +111,36 @@ impl Output<'_> {
         self.text(&[c]);
     }
 
-    // Lays a number so, in decimal: one digit by itself, without the library's buffer, since most numbers of many lines are such.
-    #[tactic(auto, using(crate::proofs::Decimal::standard_decimal, crate::proofs::Decimal::decimal_one))]
+    // Lays a number so, in decimal: in place, since the library's digits would have to be copied, and one digit by itself, as most are.
     pub fn decimal(&mut self, n: u32)
         ensures { Lays self.old (fitted self.old («decimal_of» n)) self.new }
     {
-        match u8::try_from(n) {
-            Ok(digit @ 0..=9) => self.octet(b'0' + digit),
-            _ => self.text(Buffer::new().format(n).as_bytes()),
+        if n < 10 {
+            self.octet(b'0' + n as u8);
+            return;
+        }
+        let count = n.ilog10() as usize + 1;
+        if self.fits(count) {
+            self.at = put_decimal(n, count, self.octets, self.at);
         }
     }
+}
+
+// A number of so many digits in decimal, from its last digit to its first. What is left of it says where it ends, so no iterator counts the turns.
+fn put_decimal(n: u32, count: usize, out: &mut [u8], at: usize) -> usize
+    requires { (count ≡ length («decimal_of» n)) × Room out.old at count }
+    ensures { Laid out.old at («decimal_of» n) result out.new }
+{
+    let end = at + count;
+    let mut i = end - 1;
+    let mut rest = n;
+    while 10 <= rest {
+        out[i] = b'0' + (rest % 10) as u8;
+        rest /= 10;
+        i -= 1;
+    }
+    out[i] = b'0' + rest as u8;
+    end
 }
 
 // ---- lines
