@@ -112,7 +112,7 @@ fn judge_place(held: &Held<'_>, number: u32) -> Result<Arrival, Refusal>
     })
 }
 
-// Where the record of a number belongs: behind that of the same number.
+// Where the record of a number belongs: behind that of the same number, where one is held.
 fn place_of(base: Point, numbers: &[u32], number: u32) -> usize
     ensures { result ≡ place_in (modulus base.long) numbers.now number }
 {

@@ -53,8 +53,8 @@ fn answer_block<A: AnswersLines<N> + Drop, W: Write, E: Write, const N: usize>(
 }
 
 // Reads an input to its end, and answers what came: how many lines were answered. A proved loop has to end, and nothing says that an input
-// does: it counts its reads down from a number that no run uses up. By hand: in a `for`, which counts by itself, none can be left uncounted,
-// so that no wrong version would show that it is refused.
+// does: it counts its reads down from a number that no run uses up. By hand, so that must-fail/read_not_counted can plant a read that isn't
+// counted: a `for` can't leave one out.
 fn answer_all<A: AnswersLines<N> + Drop, R: Read, W: Write, E: Write, const N: usize>(
     reading: &mut Reading<A, N>,
     name: &[u8],
