@@ -1,8 +1,9 @@
 -- What was read, by its type: the answer, and of a status its ranges.
 -- Assumes nothing.
 use Rattle.std.proofs.Common.{◌≡◌, ℕ, Bool, true, false, List, [], ◌∷◌, Option, Some, None, length, get_or, refl, sym, ◌∙◌, ap, arith}
+use lib.IntN.{pos}
 use Rattle.basics.specs.Basics.{bit, done, refused}
-use Rattle.frame_layout.specs.Frames.{Range, Status, Reading, data_of, status_of, refuse, status_type, width, list_at, read_frame}
+use Rattle.frame_layout.specs.Frames.{Range, Status, Reading, data_of, status_of, refuse, data_type, status_type, width, list_at, read_frame}
 use Rattle.frame_layout.proofs.Octets.{length_ranges_at}
 use Rattle.frame_layout.specs.Types.{number_of}
 use Rattle.frame_layout.specs.declared.FrameType.{FrameType}
@@ -14,7 +15,7 @@ use Rattle.frame_reader.specs.Answers.{reading_of, there}
 use Rattle.frame_reader.proofs.Walk.{before, stands, all_there}
 use Rattle.basics.proofs.Apart.{apart}
 use Rattle.c_calls.specs.Boundary.{fields_of, ranges_in, answer_of, itself, minus, type_of, leaves, begins}
-use Rattle.c_calls.specs.Looks.{kind_of, before_first}
+use Rattle.c_calls.specs.Looks.{kind_of, before_first, is_status, answer_to, no_type}
 
 -- the count in a status's head is how many ranges it has
 pub status_fields_lem : (s old : List ℕ) (h : Head) → 0 ∷ h.highest ∷ h.desired ∷ h.minimum ∷ bit h.last ∷ h.count ∷ [] ≡ fields_of old (reading_of s (read.Status h))
@@ -65,11 +66,44 @@ refused_none (data_of b m) n e = refl
 refused_none (status_of st) n e = apart (cc)
 refused_none (refuse m) n e = refl
 
+-- no status has no ranges
+pub unlisted : (r : Reading) (k : ℕ) → done k ≡ kind_of r → is_status k ≡ false → ranges_in r ≡ []
+unlisted (data_of long n) k e t = refl
+unlisted (status_of st) k e t = let is : k ≡ status_type st.long = cc in by st.long (rw is at t)
+  where
+    by : (b : Bool) → is_status (status_type b) ≡ false → st.ranges ≡ []
+    by true t = apart (cc)
+    by false t = apart (cc)
+unlisted (refuse n) k e t = refl
+
 -- the answer to what is seen is its type, or minus the number of the refusal
 pub type_said : (r : Reading) → answer_of itself (kind_of r) ≡ type_of r
 type_said (data_of long n) = refl
 type_said (status_of st) = refl
 type_said (refuse n) = refl
+
+-- the number of what was read: its type, or past every type
+abbrev pub type_number : Reading → ℕ
+type_number (data_of long n) = data_type long
+type_number (status_of s) = status_type s.long
+type_number (refuse n) = no_type
+
+-- the number of a refusal; 0 for none
+abbrev pub refusal_of : Reading → ℕ
+refusal_of (data_of long n) = 0
+refusal_of (status_of s) = 0
+refusal_of (refuse n) = n
+
+-- by both numbers
+pub told : (r : Reading) → answer_to (type_number r) (refusal_of r) ≡ type_of r
+told (data_of true n) = refl
+told (data_of false n) = refl
+told (status_of s) = by s.long
+  where
+    by : (b : Bool) → answer_to (status_type b) 0 ≡ pos (status_type b)
+    by true = refl
+    by false = refl
+told (refuse n) = refl
 
 -- a refusal leaves the cursor
 pub begins_refused : (old : List ℕ) (r : Reading) (n : ℕ) → refused n ≡ kind_of r → leaves (minus n) old ≡ begins old r

@@ -1,4 +1,5 @@
 pub mod Copied
+pub mod Joined
 pub mod Lengths
 pub mod Placed
 pub mod Ranges

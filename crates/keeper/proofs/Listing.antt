@@ -10,10 +10,11 @@ use Rattle.std.proofs.Common.{drop-drop}
 use lib.Seq.{set-set, set-get_or, set_comm, take-suc, take-take, get_or-take, take_at, take_all, length-take-le, sets, sets-eq}
 use borrow.Rule.Slice.PartMut.{put_mid}
 use Rattle.std.proofs.lemmas.List.{take_rest}
+use Rattle.basics.specs.Basics.{bit}
 use Rattle.frame_layout.specs.Frames.{Range, ranges_of, starts_of, ends_of}
-use Rattle.bearer.specs.Losses.{Gap, gaps, offsets, lost_below, runs_of, new_runs, runs_joined}
+use Rattle.bearer.specs.Losses.{Gap, gaps, offsets, runs_of, new_runs, runs_joined}
 use Rattle.keeper_judge.specs.declared.Losses.{Losses}
-use Rattle.keeper_judge.specs.Judgements.{first_adjoins}
+use Rattle.keeper_judge.specs.Judgements.{first_adjoins, Losing}
 use Rattle.frame_layout.proofs.Ranges.{ranges_take, ranges_append, ranges_own, ranges_count, starts_listed}
 use Rattle.keeper_judge.proofs.Joining.{adjoins_listed, with_apart, with_joined, count_apart, count_joined}
 use Rattle.keeper_judge.proofs.Given.{same_gaps}
@@ -118,31 +119,57 @@ put_sets n k a vs e h is =
 module _ {lost : Losses} {M base : ℕ} {ns ss es : List ℕ} {n : ℕ} (h : Lists lost M base ns ss es n) where
   -- the gaps that a pass over the numbers from `from` on finds
   abbrev passed : List Gap
-  passed = gaps 0 lost.limit (offsets M base (take (length ns - lost.from) (drop lost.from ns)))
+  passed = gaps 0 lost.limit (offsets M base (drop lost.from ns))
 
-  all_passed : passed ≡ lost_below M base ns lost.limit
-  all_passed = rw (take_rest ns lost.from) (same_gaps h.losing.reaches)
+  -- written from a slot on
+  module _ (at : ℕ) (at-is : at ≡ n - bit lost.joins) (ss' es' : List ℕ) (e-starts : ss' ≡ sets ss at (starts_of (runs_of M base passed)))
+      (e-ends : es' ≡ sets es at (ends_of (runs_of M base passed))) where
+    -- the first joins, and the slot keeps its start
+    pub lists_joined : lost.joins ≡ true → (start : ℕ) → start ≡ get_or ss at 0
+        → take lost.runs (ranges_of (set ss' at start) es') ≡ runs_joined M (take n (ranges_of ss es)) (new_runs M base ns lost.limit)
+    lists_joined e start start_is =
+        let l = h.losing in
+        let slot : at ≡ n - 1 = at-is ∙ rw e in
+        rw (e-starts, e-ends, start_is, slot, same_gaps l.reaches, l.runs_are)
+        (listed_joined M ss es n h.within h.alike (new_runs M base ns lost.limit) (sym l.joins_is ∙ e) (omega (arith, l.runs_are, h.few)))
 
-  -- the first joins the last listed one, whose slot keeps its start
-  pub lists_joined : lost.joins ≡ true → (k : ℕ) → (n - 1) + k ≡ length ss → (ss' es' : List ℕ)
-      → ss' ≡ sets (take k (drop (n - 1) ss)) 0 (starts_of (runs_of M base passed)) → es' ≡ sets (take k (drop (n - 1) es)) 0 (ends_of (runs_of M base passed))
+    -- it doesn't
+    pub lists_behind : lost.joins ≡ false → take lost.runs (ranges_of ss' es') ≡ runs_joined M (take n (ranges_of ss es)) (new_runs M base ns lost.limit)
+    lists_behind e =
+        let l = h.losing in
+        let slot : at ≡ n = at-is ∙ rw e (omega arith) in
+        rw (e-starts, e-ends, slot, same_gaps l.reaches, l.runs_are)
+        (listed_behind M ss es n h.within h.alike (new_runs M base ns lost.limit) (sym l.joins_is ∙ e) (omega (arith, l.runs_are, h.few)))
+
+  -- the same, written to a part from there on, by a pass over a part of the numbers
+  abbrev part_passed : List Gap
+  part_passed = gaps 0 lost.limit (offsets M base (take (length ns - lost.from) (drop lost.from ns)))
+
+  part_put : (at k : ℕ) (a e : List ℕ) (of : List Gap → List ℕ) → at + k ≡ length a → e ≡ sets (take k (drop at a)) 0 (of part_passed) → put_mid at k a e ≡ sets a at (of passed)
+  part_put at k a e of room is = put_sets at k a (of part_passed) e room is ∙ rw take_rest
+
+  pub part_joined : lost.joins ≡ true → (k : ℕ) → (n - 1) + k ≡ length ss → (ss' es' : List ℕ)
+      → ss' ≡ sets (take k (drop (n - 1) ss)) 0 (starts_of (runs_of M base part_passed)) → es' ≡ sets (take k (drop (n - 1) es)) 0 (ends_of (runs_of M base part_passed))
       → take lost.runs (ranges_of (set (put_mid (n - 1) k ss ss') (n - 1) (get_or ss (n - 1) 0)) (put_mid (n - 1) k es es'))
       ≡ runs_joined M (take n (ranges_of ss es)) (new_runs M base ns lost.limit)
-  lists_joined e k room ss' es' s t =
-      let l = h.losing in
-      rw (
-        put_sets (n - 1) k ss (starts_of (runs_of M base passed)) ss' room s,
-        put_sets (n - 1) k es (ends_of (runs_of M base passed)) es' (omega (arith, h.alike)) t,
-        all_passed,
-        l.runs_are,
-      )
-      (listed_joined M ss es n h.within h.alike (new_runs M base ns lost.limit) (sym l.joins_is ∙ e) (omega (arith, l.runs_are, h.few)))
+  part_joined e k room ss' es' s t =
+      lists_joined (n - 1) (rw e) (put_mid (n - 1) k ss ss') (put_mid (n - 1) k es es')
+      (part_put (n - 1) k ss ss' (λ gs. starts_of (runs_of M base gs)) room s)
+      (part_put (n - 1) k es es' (λ gs. ends_of (runs_of M base gs)) (omega (arith, h.alike)) t)
+      e (get_or ss (n - 1) 0) refl
 
-  -- it stands behind it
-  pub lists_behind : lost.joins ≡ false → (k : ℕ) → n + k ≡ length ss → (ss' es' : List ℕ)
-      → ss' ≡ sets (take k (drop n ss)) 0 (starts_of (runs_of M base passed)) → es' ≡ sets (take k (drop n es)) 0 (ends_of (runs_of M base passed))
+  pub part_behind : lost.joins ≡ false → (k : ℕ) → n + k ≡ length ss → (ss' es' : List ℕ)
+      → ss' ≡ sets (take k (drop n ss)) 0 (starts_of (runs_of M base part_passed)) → es' ≡ sets (take k (drop n es)) 0 (ends_of (runs_of M base part_passed))
       → take lost.runs (ranges_of (put_mid n k ss ss') (put_mid n k es es')) ≡ runs_joined M (take n (ranges_of ss es)) (new_runs M base ns lost.limit)
-  lists_behind e k room ss' es' s t =
-      let l = h.losing in
-      rw (put_sets n k ss (starts_of (runs_of M base passed)) ss' room s, put_sets n k es (ends_of (runs_of M base passed)) es' (omega (arith, h.alike)) t, all_passed, l.runs_are)
-      (listed_behind M ss es n h.within h.alike (new_runs M base ns lost.limit) (sym l.joins_is ∙ e) (omega (arith, l.runs_are, h.few)))
+  part_behind e k room ss' es' s t =
+      lists_behind n (rw e (omega arith)) (put_mid n k ss ss') (put_mid n k es es')
+      (part_put n k ss ss' (λ gs. starts_of (runs_of M base gs)) room s)
+      (part_put n k es es' (λ gs. ends_of (runs_of M base gs)) (omega (arith, h.alike)) t)
+      e
+
+-- ---- the same, of terms that are equal
+
+module _ {M M' n n' : ℕ} {ns ns' : List ℕ} (base : ℕ) (e : M' ≡ M) (f : ns' ≡ ns) (g : n' ≡ n) where
+  pub lists_of : {lost : Losses} (ss es : List ℕ) → Losing lost M base ns (take n (ranges_of ss es)) → n ≤ length ss → length ss ≡ length es → lost.runs ≤ length ss
+      → Lists lost M' base ns' ss es n'
+  lists_of ss es losing within alike few = rw (e, f, g) (record { losing = losing; within = within; alike = alike; few = few })

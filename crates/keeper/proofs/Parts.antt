@@ -1,4 +1,4 @@
--- What a call on the front part of an array leaves there, and what is behind the first of those that are first.
+-- What a call on the front part of an array leaves there, and the first of those that are first.
 -- Assumes nothing.
 use mathlib.Core.Path.{◌≡◌, refl, sym, ◌∙◌, ap}
 use mathlib.Core.Bool.{Bool, true, false}
@@ -8,7 +8,7 @@ use native.Mathlib.Omega.{arith}
 use native.Mathlib.Numerals.{add-one}
 use lib.Dec.{ltb}
 use lib.ListN.{length, get_or, take, drop, length-append, length-take, length-drop, drop_of_length-le}
-use lib.Seq.{take-suc, length-take-le, take_at, take-append-le, drop-append-le}
+use lib.Seq.{take-suc, length-take-le, take_at, take-append-le, drop-append-le, take-take, take_all}
 use borrow.Author.Tests.{ltb-true, ltb-false}
 
 module _ (a e : List ℕ) where
@@ -31,7 +31,21 @@ module _ (a e : List ℕ) where
       rw is-new (take_at new (drop (held + 1) a) (held + 1) one)
 
 module _ {A : Type 0} (n m : ℕ) (l : List A) where
-  -- what is behind the first m of the first n
+  -- the first m of the first n
+  pub take_both : take m (take n l) ≡ take (min n m) l
+  take_both = by_test (ltb m n) refl
+    where
+      by_test : (t : Bool) → ltb m n ≡ t → take m (take n l) ≡ take (min n m) l
+      by_test true e =
+          let h : m < n = ltb-true m n e in
+          let least : min n m ≡ m = omega arith in
+          rw least (take-take m n l (omega arith))
+      by_test false e =
+          let h : n ≤ m = ltb-false m n e in
+          let least : min n m ≡ n = omega arith in
+          rw least (take_all m (take n l) (omega (arith, length-take n l)))
+
+  -- and what is behind them
   pub drop_both : drop (min n m) (take n l) ≡ drop m (take n l)
   drop_both = by_test (ltb m n) refl
     where
@@ -46,3 +60,9 @@ module _ {A : Type 0} (n m : ℕ) (l : List A) where
           let short : length (take n l) ≤ n = omega (arith, length-take n l) in
           let shorter : length (take n l) ≤ m = omega arith in
           rw (least, drop_of_length-le (take n l) short, drop_of_length-le (take n l) shorter)
+
+-- the first of a list that is no longer than m
+pub take_most : (n m : ℕ) (l : List ℕ) → length l ≤ m → take n l ≡ take (min n m) l
+take_most n m l h =
+    let swap : min m n ≡ min n m = omega arith in
+    ap (take n) (sym (take_all m l h)) ∙ take_both m n l ∙ rw swap

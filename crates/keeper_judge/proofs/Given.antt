@@ -1,6 +1,6 @@
 -- What is given up below a distance, put together from what a pass over the numbers tells.
 -- Assumes nothing.
-use Rattle.std.proofs.Common.{◌≡◌, Bool, true, false, List, [], ◌∷◌, map, ℕ, zero, suc, ◌+◌, ◌-◌, ◌^◌, ◌<◌, length, drop, refl, sym, ◌∙◌, ap, arith}
+use Rattle.std.proofs.Common.{◌≡◌, Bool, true, false, List, [], ◌∷◌, map, None, ℕ, zero, suc, ◌+◌, ◌-◌, ◌^◌, ◌<◌, length, drop, refl, sym, ◌∙◌, ap, arith}
 use Rattle.std.proofs.Math.ListN.{length-map, length-drop}
 use mir.Val.{bool_byte}
 use Rattle.basics.specs.Basics.{bit}
@@ -18,7 +18,8 @@ use Rattle.keeper_loss.specs.declared.GivenUp.{GivenUp}
 use Rattle.keeper_loss.specs.declared.Point.{Point}
 use Rattle.keeper_loss.specs.Tally.{first_from, told, base_in}
 use Rattle.keeper_loss.proofs.Bounds.{gaps_none, gaps_count}
-use Rattle.keeper_judge.specs.Judgements.{first_adjoins, joins_from, ReachesFrom, Losing}
+use Rattle.keeper_judge.specs.declared.Losses.{Losses}
+use Rattle.keeper_judge.specs.Judgements.{first_adjoins, joins_from, Reaches, ReachesFrom, Losing}
 use Rattle.keeper_judge.proofs.Joining.{count_with}
 
 -- the numbers from `from` on leave the gaps that those at or past base leave
@@ -64,7 +65,52 @@ module _ (M base : ℕ) (ns es : List ℕ) (runs : List Range) (seen : ends_of r
     runs_are = sym (runs_new joins e);
   }
 
--- ... as they are held and listed, seen from base
+-- ---- the same in two cases
+
+-- nothing, when so many runs are listed
+abbrev none_lost : ℕ → ℕ → ℕ → Losses
+none_lost from limit listed = record { from = from; limit = limit; numbers = 0; runs = listed; joins = false }
+
+-- nothing is told of no gap
+no_gap : (gs : List Gap) (up : GivenUp) → up ≡ told gs → up.gaps ≡ 0 → (up.numbers ≡ 0) × (up.first ≡ None)
+no_gap [] up tells e = rw tells (refl, refl)
+no_gap (g ∷ gs) up tells e = absurd (omega (arith, ap (λ (u : GivenUp). u.gaps) tells))
+
+-- no run more, and none joins
+less_none : (n : ℕ) → n + 0 - bool_byte false ≡ n
+less_none n = omega arith
+
+-- a run fewer where the first new one joins, taken away
+less_bit : (runs n : ℕ) (t : Bool) → runs + bit t ≡ n → runs ≡ n - bool_byte t
+less_bit runs n true e = omega arith
+less_bit runs n false e = omega arith
+
+module _ (M base : ℕ) (ns : List ℕ) (runs : List Range) (up : GivenUp) (l : ℕ) (tells : up ≡ told (lost_below M base ns l)) where
+  -- no gap: nothing is lost
+  pub none_losing : (from : ℕ) → Reaches (none_lost from l (length (ends_of runs))) M base ns → up.gaps ≡ 0 → Losing (none_lost from l (length (ends_of runs))) M base ns runs
+  none_losing from reach e =
+      let none = no_gap (lost_below M base ns l) up tells e in
+      let is : false ≡ joins_from M base (ends_of runs) up.first = rw none.1 in
+      let few : length (ends_of runs) + up.gaps - bool_byte false ≡ length (ends_of runs) = rw e (less_none (length (ends_of runs))) in
+      rw (none.0, few) at (losing_lem M base ns (ends_of runs) runs refl up l tells from reach false is)
+
+  -- some: the first new run joins the last listed one or doesn't
+  pub some_losing : (lost : Losses) → lost.limit ≡ l → Reaches lost M base ns → (up.gaps ≡ 0 → ⊥) → lost.numbers ≡ up.numbers
+      → lost.joins ≡ joins_from M base (ends_of runs) up.first → lost.runs + bit lost.joins ≡ length (ends_of runs) + up.gaps
+      → Losing lost M base ns runs
+  some_losing lost limit reach some numbers joins count =
+      let few : lost.runs ≡ length (ends_of runs) + up.gaps - bool_byte lost.joins = less_bit lost.runs (length (ends_of runs) + up.gaps) lost.joins count in
+      let it = losing_lem M base ns (ends_of runs) runs refl up l tells lost.from (rw limit at reach) lost.joins joins in
+      record {
+        reaches = reach;
+        numbers_are = rw limit (numbers ∙ it.numbers_are);
+        joins_is = rw limit it.joins_is;
+        runs_are = rw limit (few ∙ it.runs_are);
+      }
+
+-- ---- the same of what is held and listed, seen from base
+
+-- what is told of its gaps
 module _ (h : Held) (b : Point) (is : b ≡ base_in h.words) (from limit : ℕ) (up : GivenUp) (joins : Bool)
     (reach : ReachesFrom from limit (modulus b.long) b.at h.numbers.now) (tells : up ≡ told (gaps 0 limit (offsets (modulus b.long) b.at (drop from h.numbers.now))))
     (joins_is : joins ≡ joins_from (modulus b.long) b.at h.ends.now up.first) where

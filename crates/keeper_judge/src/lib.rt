@@ -4,7 +4,7 @@
 
 ghost use Rattle.std.specs.Prelude.{◌≡◌, ℕ, ◌^◌, ◌≤◌, ◌<◌, length};
 ghost use Rattle.circle.specs.Lengths.{modulus};
-ghost use Rattle.bearer.specs.Losses.{bears_before, offsets, raised_base as «raised_base_of»};
+ghost use Rattle.bearer.specs.Losses.{place_in, bears_before, offsets, raised_base as «raised_base_of»};
 ghost use Rattle.bearer.specs.Keeper.{limit_of, base_arrived};
 ghost use Rattle.keeper_state.specs.Lent.{state_shown};
 ghost use Rattle.keeper_judge.specs.Judgements.{joins_from, Reaches, ReachesFrom, JudgesLosses, JudgesArrival, JudgesPlace, JudgesExpiry, JudgesGaps};
@@ -90,7 +90,7 @@ fn judge_place(held: &Held<'_>, number: u32) -> Result<Arrival, Refusal>
     ensures { (pdcp : ℕ) → JudgesPlace result (state_shown held.now) number pdcp }
 {
     let base = Point::from(held.words);
-    let place = Point { at: number, ..base }.place(held.numbers);
+    let place = place_of(base, held.numbers, number);
     if has_record(held.numbers, place, number) {
         return Err(Refusal::Again);
     }
@@ -110,6 +110,13 @@ fn judge_place(held: &Held<'_>, number: u32) -> Result<Arrival, Refusal>
         place,
         plan: Plan { base, lost },
     })
+}
+
+// Where the record of a number belongs: behind that of the same number, where one is held.
+fn place_of(base: Point, numbers: &[u32], number: u32) -> usize
+    ensures { result ≡ place_in (modulus base.long) numbers.now number }
+{
+    Point { at: number, ..base }.place(numbers)
 }
 
 // Whether the record in front of a place bears the number.
@@ -166,7 +173,7 @@ fn judge_gaps(held: &Held<'_>, distance: u32) -> Result<Plan, Refusal>
 // ---- what is given up
 
 // What is given up below the distance `limit`: 14, or what can be listed. The list is passed twice, to be changed only once nothing is
-// refused. Inlined, since an arrival in order took 308 instructions with a call of it, and takes 246.
+// refused. Inlined: when that was done, an arrival in order went from 308 instructions to 246.
 #[inline(always)]
 fn lost_below(held: &Held<'_>, limit: u32) -> Result<Losses, Refusal>
     ensures { JudgesLosses result (state_shown held.now) limit }

@@ -7,7 +7,7 @@ use mathlib.Core.Bool.{Bool, true, false, cond}
 use mathlib.Core.List.{List, [], ◌∷◌}
 use Prim.Native.Nat.{ℕ, zero, suc, ◌+◌, ◌≤◌, ◌<◌}
 use native.Mathlib.Omega.{arith}
-use lib.ListN.{length, get_or}
+use lib.ListN.{length, get_or, drop}
 use lib.Seq.{set_out, sets}
 use Rattle.std.proofs.lemmas.List.Recursion.{is_position_or_len}
 use Rattle.std.specs.List.{position, position_or_len}
@@ -37,11 +37,17 @@ module _ (p : ℕ → Bool) where
   front_all xs h = front_none p xs (every xs h)
 
   -- behind the last element that hasn't it
-  pub front_at : (xs : List ℕ) (i : ℕ) → i < length xs → p (get_or xs i 0) ≡ false → ((k : ℕ) → i < k → k < length xs → p (get_or xs k 0) ≡ true)
-      → front_of p xs ≡ i + 1
+  pub front_at : (xs : List ℕ) (i : ℕ) → i < length xs → p (get_or xs i 0) ≡ false → all p (drop (suc i) xs) ≡ true → front_of p xs ≡ suc i
   front_at [] i l h a = absurd (omega arith)
-  front_at (x ∷ xs) zero l h a = rw h (ap suc (front_all xs (λ k m. a (suc k) (omega arith) (omega arith))))
-  front_at (x ∷ xs) (suc i) l h a = rw (one_not (x ∷ xs) (suc i) l h) (omega (arith, front_at xs i (omega arith) h (λ k m n. a (suc k) (omega arith) (omega arith))))
+  front_at (x ∷ xs) zero l h a = rw h (ap suc (front_none p xs a))
+  front_at (x ∷ xs) (suc i) l h a = rw (one_not (x ∷ xs) (suc i) l h) (ap suc (front_at xs i (omega arith) h a))
+
+  -- ... place by place
+  pub front_after : (xs : List ℕ) (i : ℕ) → i < length xs → p (get_or xs i 0) ≡ false → ((k : ℕ) → i < k → k < length xs → p (get_or xs k 0) ≡ true)
+      → front_of p xs ≡ i + 1
+  front_after [] i l h a = absurd (omega arith)
+  front_after (x ∷ xs) zero l h a = rw h (ap suc (front_all xs (λ k m. a (suc k) (omega arith) (omega arith))))
+  front_after (x ∷ xs) (suc i) l h a = rw (one_not (x ∷ xs) (suc i) l h) (omega (arith, front_after xs i (omega arith) h (λ k m n. a (suc k) (omega arith) (omega arith))))
 
 -- ---- the last number
 

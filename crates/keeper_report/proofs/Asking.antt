@@ -11,9 +11,9 @@ use Rattle.keeper_state.specs.Lent.{state_shown}
 use Rattle.keeper_state.proofs.Showing.{runs_shown}
 
 -- there is where a run is listed
-some_news : (runs : List Range) (records : List Record) → 0 < length runs → news runs records ≡ true
-some_news [] records h = absurd (omega arith)
-some_news (run ∷ runs) records h = refl
+pub listed_news : (runs : List Range) (records : List Record) → 0 < length runs → news runs records ≡ true
+listed_news [] records h = absurd (omega arith)
+listed_news (run ∷ runs) records h = refl
 
 -- where none is, the first record tells
 pub first_news : (runs : List Range) (records : List Record) → length runs ≡ 0 → news runs records ≡ first_confirmed records
@@ -29,10 +29,10 @@ first_mark (n ∷ ns) (p ∷ ps) [] lp lc = absurd (omega arith)
 first_mark (n ∷ ns) (p ∷ ps) (c ∷ cs) lp lc = refl
 
 module _ (h : Held) where
-  pub listed_news : (length h.starts.now == 0) ≡ false → news (state_shown h).runs (state_shown h).records ≡ true
-  listed_news e =
+  pub run_tells : (length h.starts.now == 0) ≡ false → news (state_shown h).runs (state_shown h).records ≡ true
+  run_tells e =
       let some : 0 < length h.starts.now = omega (arith, eqb-false (length h.starts.now) 0 e) in
-      some_news (state_shown h).runs (state_shown h).records (omega (arith, runs_shown h))
+      listed_news (state_shown h).runs (state_shown h).records (omega (arith, runs_shown h))
 
   pub marked_news : (length h.starts.now == 0) ≡ true → news (state_shown h).runs (state_shown h).records ≡ is_set (get_or h.marks.now 0 0)
   marked_news e =

@@ -1,9 +1,11 @@
 -- The machine's judgement of a status, and what it lets go.
 -- Assumes nothing.
 use Rattle.std.specs.Prelude.{if◌then◌else◌}
-use Rattle.std.proofs.Common.{◌≡◌, Bool, true, false, List, [], ◌∷◌, ℕ, zero, suc, ◌+◌, ◌-◌, ◌≤◌, min, length, take, drop, cond, refl, sym, ◌∙◌, ap, arith}
+use Rattle.std.proofs.Common.{◌≡◌, Bool, true, false, List, [], ◌∷◌, ℕ, zero, suc, ◌+◌, ◌-◌, ◌≤◌, ◌<◌, min, length, get_or, take, drop, cond, refl, sym, ◌∙◌, ap, arith}
 use Rattle.std.specs.List.{zip, prefix_len, take_while, slice_get, drop-map}
 use Rattle.std.specs.Option.{unwrap_or}
+use native.Mathlib.Numerals.{add-one}
+use lib.Seq.{drop-cons}
 use Rattle.std.proofs.lemmas.List.{drop_min, length-take-le, get_or-take, get_or_default}
 use Rattle.std.proofs.lemmas.List.Folds.{length-prefix_len}
 use Rattle.std.proofs.lemmas.Option.{unwrap_or-slice_get}
@@ -12,11 +14,12 @@ use Rattle.basics.specs.Basics.{◌and◌, is_set}
 use Rattle.circle.specs.Lengths.{length_in, is_long, modulus}
 use Rattle.frame_layout.specs.Frames.{Range, starts_of, most_ranges, write_status}
 use Rattle.bearer.specs.Losses.{goes_before}
-use Rattle.bearer.specs.Keeper.{Keeper, Record, run_with, may_go, let_go, highest_of, unreported, status_now, reported_as, status}
+use Rattle.bearer.specs.Keeper.{Keeper, Record, no_record, run_with, may_go, let_go, highest_of, unreported, status_now, reported_as, status}
 use Rattle.bearer.proofs.Lists.Elements.{run_within}
 use Rattle.keeper_state.specs.declared.Held.{Held}
 use Rattle.keeper_state.specs.State.{records_of}
 use Rattle.keeper_state.specs.Lent.{state_shown}
+use Rattle.keeper_state.proofs.Records.{record_of, record_at_lem, records_count}
 use Rattle.keeper_state.proofs.Showing.{starts_shown, count_shown, record_shown}
 use Rattle.keeper_report.specs.Reports.{gone_of, goes}
 
@@ -87,3 +90,28 @@ module _ (h : Held) where
   pub gone_is : (count highest : ℕ) → count ≡ let_go (state_shown h) → highest ≡ unwrap_or (slice_get (take count h.pdcps.now) (length (take count h.pdcps.now) - 1)) h.words.reported
       → record { count = count; highest = highest } ≡ gone_of (state_shown h)
   gone_is count highest e f = rw (f, e, highest_is (let_go (state_shown h)) go_within)
+
+-- ---- one record at a time. No code goes so today; the laws stand
+
+-- a record that may go, by the starts of the runs left out
+abbrev pub record_goes : ℕ → List ℕ → Record → Bool
+record_goes M ss r = goes_before M ss r.number r.confirmed
+
+-- of numbers, PDCP numbers and marks, as many of each
+module _ (ns ps cs : List ℕ) (lp : length ns ≡ length ps) (lc : length ns ≡ length cs) where
+  -- as many as there are numbers
+  pub count_all : length (records_of ns ps cs) ≡ length ns
+  count_all = omega (arith, records_count ns ps cs)
+
+  module _ (M : ℕ) (ss : List ℕ) (i : ℕ) (h : i < length ns) where
+    from_here : drop i (records_of ns ps cs) ≡ record_of (get_or ns i 0) (get_or ps i 0) (get_or cs i 0) ∷ drop (i + 1) (records_of ns ps cs)
+    from_here = rw (drop-cons (records_of ns ps cs) i no_record (omega (arith, count_all)), record_at_lem i ns ps cs h (omega arith) (omega arith), add-one i)
+
+    -- the record at place i stays, and so do those behind it
+    pub go_stops : goes_before M ss (get_or ns i 0) (is_set (get_or cs i 0)) ≡ false → run_with (record_goes M ss) (drop i (records_of ns ps cs)) ≡ 0
+    go_stops e = rw (from_here, e)
+
+    -- it goes, and those behind it that go with it
+    pub go_more : goes_before M ss (get_or ns i 0) (is_set (get_or cs i 0)) ≡ true
+        → run_with (record_goes M ss) (drop i (records_of ns ps cs)) ≡ suc (run_with (record_goes M ss) (drop (i + 1) (records_of ns ps cs)))
+    go_more e = rw (from_here, e)

@@ -1,26 +1,29 @@
 -- The machine's calls, by what their tests say.
 -- Assumes nothing.
-use Rattle.std.specs.Prelude.{Some, None, if◌then◌else◌}
+use Rattle.std.specs.Prelude.{Some, None, Err, if◌then◌else◌}
 use mathlib.Core.Path.{◌≡◌, refl, sym, ◌∙◌, ap}
 use mathlib.Core.Bool.{Bool, true, false, not}
-use mathlib.Core.List.{List, ◌++◌}
-use mathlib.Core.Option.{some}
-use Prim.Native.Nat.{ℕ, ◌+◌, ◌-◌, ◌<◌}
+use mathlib.Core.List.{List, [], ◌∷◌, ◌++◌}
+use mathlib.Core.Option.{Option, some}
+use Prim.Native.Nat.{ℕ, ◌+◌, ◌-◌, ◌%◌, ◌≤◌, ◌<◌}
 use native.Mathlib.Numerals.{add-one}
 use native.Mathlib.Omega.{arith}
-use borrow.Author.Tests.{ne_eqb, ltb-true}
+use borrow.Author.Tests.{ne_eqb, ltb-true, lt-ltb, lt-leb, le-leb}
 use lib.Dec.{eqb, ltb}
-use lib.ListN.{length, take, drop}
+use lib.ListN.{length, take, drop, drop_of_length-le}
 use lib.Seq.{length-take-le}
 use Rattle.basics.proofs.Apart.{apart}
 use Rattle.basics.proofs.Choices.{by_choice}
 use Rattle.basics.specs.Basics.{◌and◌, ◌or◌, Outcome, done, refused}
+use Rattle.circle.specs.Lengths.{modulus_of, pdcps}
 use Rattle.frame_layout.specs.Frames.{Status}
-use Rattle.bearer.specs.Bearer.{After, refusing}
-use Rattle.bearer.specs.Ledger.{Entry, Ledger, Passed, is_in_order, past_last, is_within_half, send, waits, waiting_at, waits_for, freed, free_through, accepted_state, accept_marked, take_at, place_without, take_oldest, ◌with_highest◌, ◌with_closed◌, ◌with_sizes_of◌, ◌with_octets◌, ◌with_oldest◌, ◌with_entries◌}
+use Rattle.refusal.specs.declared.Refusal.{Refusal}
+use Rattle.bearer.specs.Bearer.{After, refusing, most_entries}
+use Rattle.bearer.specs.Ledger.{Entry, Ledger, Passed, is_size, is_in_order, new_entry, raised, past_last, is_within_half, send, waits, waiting_at, waits_for, freed, free_through, accepted_state, accept_marked, take_at, place_without, take_oldest, ◌with_next◌, ◌with_sent◌, ◌with_highest◌, ◌with_closed◌, ◌with_sizes_of◌, ◌with_octets◌, ◌with_oldest◌, ◌with_entries◌}
 use Rattle.ledger_entries.specs.Steps.{place_in, passed_of, free_while, Lowers}
 use Rattle.ledger_entries.proofs.Slots.{Stands}
 use Rattle.ledger_entries.proofs.Sums.{lowers_taken}
+use Rattle.ledger_marks.specs.Walked.{marked_as}
 use Rattle.ledger.specs.View.{beside}
 use Rattle.ledger.specs.Steps.{judged}
 
@@ -30,6 +33,10 @@ use Rattle.ledger.specs.Steps.{judged}
 pub order_oldest : (l : Ledger Unit) (p : ℕ) → (p ≡ l.highest → ⊥) → {x : Entry Unit} → Stands l.entries l.oldest x
     → is_in_order l p ≡ (past_last l x.pdcp p and is_within_half l x.pdcp p)
 order_oldest l p other at = rw (ne_eqb p l.highest other, at.rest)
+
+-- with none waiting any is in order
+pub order_any : (l : Ledger Unit) (p : ℕ) → (p ≡ l.highest → ⊥) → length l.entries ≤ l.oldest → is_in_order l p ≡ true
+order_any l p a none = rw (ne_eqb p l.highest a, drop_of_length-le l.entries none)
 
 -- a refusal of what is judged
 abbrev against : ℕ → Outcome Unit
@@ -49,7 +56,35 @@ first_of l false false false false x n e = cc
 pub send_judged : (l : Ledger Unit) (p z n : ℕ) → refused n ≡ judged l p z → beside (refused n) l ≡ send l p z tt
 send_judged l p z n e = sym (first_of l _ _ _ _ _ n (sym e))
 
+-- what is tested in front of the order: the end is open, the number below 2^L, and the size within its limits
+pub record Fit (l : Ledger Unit) (p z : ℕ) : Type 0 where
+  pub open_end : l.closed ≡ false
+  pub below : p < pdcps l.bits
+  pub sized : is_size z ≡ true
+
+module _ {l : Ledger Unit} {p z : ℕ} (fit : Fit l p z) where
+  -- 35
+  pub send_order : is_in_order l p ≡ false → send l p z tt ≡ beside (refused 35) l
+  send_order o = sym (send_judged l p z 35 (rw (fit.open_end, lt-ltb p (pdcps l.bits) fit.below, fit.sized, o)))
+
+  module _ (o : is_in_order l p ≡ true) where
+    -- 36
+    pub send_full : most_entries ≤ length l.entries → send l p z tt ≡ beside (refused 36) l
+    send_full f = rw (fit.sized, o, fit.open_end, lt-ltb p (pdcps l.bits) fit.below, le-leb most_entries (length l.entries) f)
+
+    -- sent
+    pub send_done : length l.entries < most_entries → (next : ℕ) → next ≡ (l.next + 1) % modulus_of l.bits
+        → (octets : ℕ) → octets ≡ raised l.octets z
+        → (es : List (Entry Unit)) → es ≡ l.entries ++ (new_entry l.next p z tt ∷ [])
+        → beside (done l.next) (l with_next next with_sent p with_octets octets with_entries es) ≡ send l p z tt
+    send_done f next n octets q es e =
+        rw (fit.sized, o, fit.open_end, lt-ltb p (pdcps l.bits) fit.below, lt-leb most_entries (length l.entries) f, n, q, e)
+
 -- ---- accepting a status
+
+-- a number wasn't found
+pub accept_missing : (l : Ledger Unit) (s : Status) (r : Refusal) {o : Option (Passed Unit)} → marked_as (Err r) ≡ o → accept_marked l s o ≡ beside (refused 33) l
+accept_missing l s r e = rw (← e)
 
 -- what is freed, by whether the highest is the one last accepted
 freed_by : (again : Bool) (p q : Passed Unit) → (if again then p else q) ≡ (if not again then q else p)

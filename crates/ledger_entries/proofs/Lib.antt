@@ -1,3 +1,4 @@
 pub mod Slots
 pub mod Passes
 pub mod Sums
+pub mod OneByOne

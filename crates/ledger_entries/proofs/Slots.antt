@@ -96,6 +96,14 @@ pub record Reached (es : List Entry) (count n i : ℕ) : Type 0 where
 pub in_count : (es : List Entry) (count i : ℕ) → i < length (held_in es count) → i < min count most_entries
 in_count es count i h = omega (arith, length-take (min count most_entries) (map entry_in es))
 
+-- what is stored in a slot that is held
+pub stored : (es : List Entry) (count i : ℕ) (e : Entry) → i < min count most_entries → held_in (set es i e) count ≡ set (held_in es count) i (entry_in e)
+stored es count i e h = ap (take (min count most_entries)) (map-set entry_in es i e) ∙ take-set-lt (min count most_entries) (map entry_in es) i (entry_in e) h
+
+-- as many are held, whatever is stored
+same_count : (es : List Entry) (count k : ℕ) (e : Entry) → length (held_in es count) ≡ length (held_in (set es k e) count)
+same_count es count k e = rw map-set (omega (arith, length-take (min count most_entries) (map entry_in es), length-take (min count most_entries) (set (map entry_in es) k (entry_in e)), length-set (map entry_in es) k (entry_in e)))
+
 module _ {es : List Entry} {count n i : ℕ} (r : Reached es count n i) where
   -- all were passed
   pub passed_all : n ≤ i → length (held_in es count) ≤ i
@@ -112,15 +120,13 @@ module _ {es : List Entry} {count n i : ℕ} (r : Reached es count n i) where
         rw (← at) (record { inside = inside; front = take-suc xs i (entry_in d) inside; rest = drop-cons xs i (entry_in d) inside })
 
     -- what is stored there
-    pub stored : (e : Entry) → held_in (set es i e) count ≡ set (held_in es count) i (entry_in e)
-    stored e =
-        ap (take (min count most_entries)) (map-set entry_in es i e)
-        ∙ take-set-lt (min count most_entries) (map entry_in es) i (entry_in e) (in_count es count i (omega (arith, r.held)))
+    pub stored_here : (e : Entry) → held_in (set es i e) count ≡ set (held_in es count) i (entry_in e)
+    stored_here e = stored es count i e (in_count es count i (omega (arith, r.held)))
 
     -- the next place
     pub next : Reached es count n (i + 1)
     next = record { far = omega arith; held = r.held }
 
-    -- the next place, with the slot written
-    pub next_stored : (e : Entry) → Reached (set es i e) count n (i + 1)
-    next_stored e = record { far = omega arith; held = r.held ∙ sym (ap length (stored e) ∙ length-set (held_in es count) i (entry_in e)) }
+    -- the next place, with a slot written
+    pub next_stored : (k : ℕ) (e : Entry) → Reached (set es k e) count n (i + 1)
+    next_stored k e = record { far = omega arith; held = r.held ∙ same_count es count k e }

@@ -21,7 +21,7 @@ use Rattle.bearer.specs.Ledger.{Entry, Passed, note_in, as_lost, waits, bears, a
 use Rattle.ledger_entries.specs.declared.Entry.{Entry as Slot}
 use Rattle.ledger_entries.specs.View.{entry_in, held_in}
 use Rattle.ledger_entries.specs.Steps.{Lowers}
-use Rattle.ledger_entries.proofs.Slots.{Stands, Reached, here, stored}
+use Rattle.ledger_entries.proofs.Slots.{Stands, Reached, here, stored_here}
 use Rattle.ledger_entries.proofs.Passes.{in_front}
 use Rattle.ledger_entries.proofs.Sums.{lowers_lost}
 use Rattle.ledger_marks.proofs.Walks.{range}
@@ -89,7 +89,7 @@ module _ {xs : List (Entry Unit)} {i : ℕ} {e : Entry Unit} (at : Stands xs i e
 module _ {es : List Slot} {count n i : ℕ} (reached : Reached es count n i) (inside : i < n) (d x : Slot) (is : entry_in x ≡ as_lost (entry_in (get_or es i d)))
     (c s t : ℕ) (rs : List Range) (long : Bool) (b : bears (entry_in (get_or es i d)) s ≡ true) where
   found : (L : ℕ) → marking (held_in es count) i c (range s t ∷ rs) L ≡ marking (held_in (set es i x) count) (i + 1) (c + 1) (after_number L (range s t) rs) L
-  found L = rw (stored reached inside x, is) (hit (here reached inside d) c (range s t) rs b L)
+  found L = rw (stored_here reached inside x, is) (hit (here reached inside d) c (range s t) rs b L)
 
   -- behind the last number of a range the next range is looked for
   pub last_found : s ≡ t → Same long (marking (held_in es count) i c (range s t ∷ rs)) (marking (held_in (set es i x) count) (i + 1) (c + 1) rs)
@@ -104,7 +104,7 @@ pub lowers_found : {es : List Slot} {count n i : ℕ} (reached : Reached es coun
     → (s : ℕ) → bears (entry_in (get_or es i d)) s ≡ true → {octets left rest : ℕ} {ys : List (Entry Unit)} → Lowers octets ys (held_in es count) left → rest ≡ left - (get_or es i d).size
     → Lowers octets ys (held_in (set es i x) count) rest
 lowers_found {es} {count} {n} {i} reached inside d x is s b f less =
-    rw (stored reached inside x, is) (lowers_lost (here reached inside d) f (and_true _ _ b).0 less)
+    rw (stored_here reached inside x, is) (lowers_lost (here reached inside d) f (and_true _ _ b).0 less)
 
 -- without ranges nothing changes
 nothing_left : (L : ℕ) (ys : List (Entry Unit)) → mark_lost L ys [] ≡ some (record { entries = ys; count = 0 })

@@ -1,3 +1,4 @@
 pub mod Kept
 pub mod Within
 pub mod Blocks
+pub mod Feeds

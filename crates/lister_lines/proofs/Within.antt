@@ -1,6 +1,6 @@
 -- A line's answer ends within the output.
 -- Assumes nothing.
-use Rattle.std.proofs.Common.{◌≡◌, ℕ, ◌+◌, ◌-◌, ◌≤◌, List, length, true, arith, leb-true}
+use Rattle.std.proofs.Common.{ℕ, ◌-◌, ◌≤◌, List, length, arith, leb-true}
 use Rattle.basics.proofs.Laying.{laid_length}
 use Rattle.lister_text.specs.declared.Output.{Output}
 use Rattle.lister_text.specs.Outputs.{Lays}

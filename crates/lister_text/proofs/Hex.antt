@@ -55,11 +55,11 @@ module _ (a b : ℕ) (cs : List ℕ) where
   both {x} said = pick_octet (is_digit a and is_digit b) x (octet_of a b) said
 
   -- that says an octet
-  pub octets_pair : {x : ℕ} → Some x ≡ octet_said a b → octets_in (a ∷ b ∷ cs) ≡ x ∷ octets_in cs
-  octets_pair {x} said = rw ((both said).0, (both said).1) refl
+  pub octets_said : {x : ℕ} → Some x ≡ octet_said a b → octets_in (a ∷ b ∷ cs) ≡ x ∷ octets_in cs
+  octets_said {x} said = rw ((both said).0, (both said).1) refl
 
-  pub digits_pair : {x : ℕ} → Some x ≡ octet_said a b → all is_digit (a ∷ b ∷ cs) ≡ all is_digit cs
-  digits_pair {x} said = let p = and_true (is_digit a) (is_digit b) (both said).0 in rw (p.0, p.1) refl
+  pub digits_said : {x : ℕ} → Some x ≡ octet_said a b → all is_digit (a ∷ b ∷ cs) ≡ all is_digit cs
+  digits_said {x} said = let p = and_true (is_digit a) (is_digit b) (both said).0 in rw (p.0, p.1) refl
 
   -- two digits say one
   octet_small : (is_digit a and is_digit b) ≡ true → octet_of a b < 256
@@ -85,3 +85,28 @@ pub octets_half : (l : List ℕ) → 2 * length (octets_in l) ≤ length l
 octets_half [] = omega arith
 octets_half (a ∷ []) = omega arith
 octets_half (a ∷ b ∷ cs) = true_or (is_digit a and is_digit b) (λ e. rw e (omega (arith, octets_half cs))) (λ e. rw e (omega arith))
+
+-- ---- a pair, by whether its values say an octet. No code goes so today; the laws stand
+
+module _ (a b : ℕ) (cs : List ℕ) where
+  -- that says an octet: both are digits
+  both_small : octet_of a b < 256 → (is_digit a ≡ true) × (is_digit b ≡ true)
+  both_small h =
+      let second : digit_of b < 16 = ⊎_elim (λ g. g) (λ e. absurd (let no : ⊥ = omega arith in no)) (digit_kinds b) in
+      (lt-ltb (digit_of a) 16 (omega arith), lt-ltb (digit_of b) 16 second)
+
+  pub octets_pair : octet_of a b < 256 → octets_in (a ∷ b ∷ cs) ≡ octet_of a b ∷ octets_in cs
+  octets_pair h = rw ((both_small h).0, (both_small h).1)
+
+  pub digits_pair : octet_of a b < 256 → all is_digit (a ∷ b ∷ cs) ≡ all is_digit cs
+  digits_pair h = rw ((both_small h).0, (both_small h).1)
+
+  -- that says none: one of them is another character
+  either : {P : Type 0} → 256 ≤ octet_of a b → (is_digit a ≡ false → P) → (is_digit a ≡ true → is_digit b ≡ false → P) → P
+  either h f g =
+      below_or (digit_of a) 16
+      (λ first. below_or (digit_of b) 16 (λ second. absurd (let no : ⊥ = omega arith in no)) (λ second. g (lt-ltb _ _ first) (le-ltb _ _ second)))
+      (λ first. f (le-ltb _ _ first))
+
+  pub octets_other : 256 ≤ octet_of a b → octets_in (a ∷ b ∷ cs) ≡ []
+  octets_other h = either h (λ e. rw e) (λ d e. rw (d, e))

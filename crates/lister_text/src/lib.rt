@@ -111,7 +111,7 @@ impl Output<'_> {
         self.text(&[c]);
     }
 
-    // Lays a number so, in decimal: in place, since the library's digits would have to be copied, and one digit by itself, as most are.
+    // Lays a number so, in decimal: in place, since the library's digits would have to be copied, and one digit by itself, since 0 has no `ilog10`.
     pub fn decimal(&mut self, n: u32)
         ensures { Lays self.old (fitted self.old («decimal_of» n)) self.new }
     {

@@ -1,20 +1,19 @@
 -- A run, read by read and write by write.
 -- Assumes nothing.
-use Rattle.std.proofs.Common.{◌≡◌, ℕ, ◌+◌, ◌-◌, ◌^◌, ◌≤◌, ◌<◌, Bool, true, false, List, [], ◌∷◌, ◌++◌, length, take, drop, eqb, eqb-true, leb, leb-true, le-leb, sym, refl, ap, ◌∙◌, true≢false, append_assoc, append-nil, arith, length-append}
+use Rattle.std.proofs.Common.{◌≡◌, ℕ, ◌+◌, ◌-◌, ◌^◌, ◌≤◌, ◌<◌, Bool, true, false, List, [], ◌++◌, length, take, drop, eqb, eqb-true, le-leb, sym, refl, ap, ◌∙◌, true≢false, append_assoc, append-nil, arith, length-append}
 use mathlib.Core.Logic.{inl, inr}
 use lib.Seq.{take_all, take_at, sets-eq, length-sets}
 use Rattle.std.proofs.lemmas.List.{take-append-drop}
 use Rattle.std.specs.Prelude.{Option, ◌⊎◌, Result, Ok, Err, is_ok, is_err}
 use Rattle.std.specs.Io.KnownBytes.{Appends, Consumes, IsAtEnd}
+use Rattle.basics.specs.Basics.{bit}
 use Rattle.basics.specs.Laid.{Laid}
 use Rattle.program_io.proofs.Known.{appends_then, appends_none, consumes_then, consumes_none}
 use Rattle.lister_text.specs.declared.Output.{Output}
-use Rattle.basics.proofs.Laying.{laid_length}
-use Rattle.lister_text.proofs.Cases.{true_or}
 use Rattle.program_lines.specs.declared.Line.{Line}
 use Rattle.program_lines.specs.Lines.{Answering}
 use Rattle.program_lines.specs.Feeding as lines
-use Rattle.program_lines.specs.Feeding.{Laws, FrontTells, Left, feeding, told, last_of}
+use Rattle.program_lines.specs.Feeding.{Laws, FrontTells, Left, leaving, feeding, told, last_of}
 use Rattle.program_lines.proofs.Feeds.{rest_end, takes_some}
 use Rattle.program_lines.proofs.Blocks.{told_fed, told_answers}
 use Rattle.program_run.specs.Running.{Telling, Answered, Going, Says, Ran}
@@ -146,6 +145,10 @@ short o t t' octets pending = record { written = []; writes = appends_none o; fr
 
 -- ---- reads
 
+-- how many were counted, when so many of all that a run counts are left
+abbrev pub counted : ℕ → ℕ
+counted left = 2 ^ 64 - 1 - left
+
 -- before the first
 pub starts : (i o : Option (List ℕ)) (t : Telling) → Going i i o o t 0 true t
 starts i o t = record { read = []; reads = consumes_none i; some = omega arith; answered = begins o t [] }
@@ -186,6 +189,10 @@ goes_on i i' i'' o o' o'' t t' t'' octets m n whole g r some b =
             ∙ ap t (sym (append_assoc g.read octets later));
       };
     }
+
+-- at least so many octets, and so at least fewer
+pub at_least : {i i' o o' : Option (List ℕ)} {t t' : Telling} {whole : Bool} {m n : ℕ} → n ≤ m → Going i i' o o' t m whole t' → Going i i' o o' t n whole t'
+at_least fewer g = record { read = g.read; reads = g.reads; some = omega (arith, fewer, g.some); answered = g.answered }
 
 -- ---- the end
 
@@ -240,3 +247,32 @@ ran_told p s tells says = record {
   front = (says.front.0, says.front.1 ∙ told_answers p tells s says.read);
   all = λ e. let a = says.all e in (a.0 ∙ told_answers p tells s says.read, a.1);
 }
+
+-- ---- a call of the code, by what it leaves alone. No code is proved so today; the laws stand
+
+-- where more of what an input has is to be read, an octet of it came
+pub some_came : (more : Bool) (n : ℕ) → (more ≡ true → 0 < n) → bit more ≤ n
+some_came true n h = h refl
+some_came false n h = omega arith
+
+module _ {S : Type 0} (p : Answering S) (tells : FrontTells p) where
+  -- what a call of the code fed, its answers laid at the front of an output that holds them, is written as far as it was taken
+  pub feeds_left : (o o' o'' : Option (List ℕ)) (t : Telling) (s' : S) (octets line' pending out : List ℕ) (k : ℕ) (whole : Bool) (w : Left S)
+      → w ≡ leaving (length pending) out 0 (feeding p (length out - 0) s' line' pending) → w.at ≤ length out
+      → Answered o o' t octets true (told p s' line') pending → Appends o' o'' (take k (take w.at w.out)) → whole ≡ eqb k (length (take w.at w.out))
+      → Answered o o'' t octets whole (told p w.state w.line) (drop w.taken pending)
+  feeds_left o o' o'' t s' octets line' pending out k whole w is fits a h e =
+      let room = length out - 0 in
+      let f = feeding p room s' line' pending in
+      let laid : Laid out 0 f.said w.at w.out = record { behind = ap (λ (v : Left S). v.at) is; buffer = ap (λ (v : Left S). v.out) is } in
+      let front : take w.at w.out ≡ f.said = front_laid out f.said w.at w.out laid fits in
+      rw (is, rest_end p room s' line' pending)
+      (feeds o o' o'' t (told p s' line') (told p f.state f.line) octets pending f.rest f.said k whole a (λ later. sym (told_fed p tells room s' line' pending later)) (rw front at h) (rw front at e))
+
+-- what is written of the answer to a last line, laid at the front of an output that holds it
+pub lasts : (o o' : Option (List ℕ)) (last out out' : List ℕ) (at k : ℕ) (whole : Bool)
+    → Laid out 0 last at out' → at ≤ length out → Appends o o' (take k (take at out')) → whole ≡ eqb k (length (take at out'))
+    → Appends o o' (take k last) × (whole ≡ eqb k (length last))
+lasts o o' last out out' at k whole laid fits w e =
+    let front = front_laid out last at out' laid fits in
+    (rw front at w, rw front at e)

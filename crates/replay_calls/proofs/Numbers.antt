@@ -24,13 +24,17 @@ value_grows v (c ∷ cs) = omega (arith, value_grows (v * 10 + (c - code "0")) c
 
 -- ---- a digit
 
--- a digit read is its value
-pub digit_says : (c d : ℕ) → Some d ≡ digit_in c → d ≡ c - code "0"
-digit_says c d = by (is_decimal c)
+-- a digit read is one, and its value
+pub decimal_small : (c d : ℕ) → Some d ≡ digit_in c → (is_decimal c ≡ true) × (d ≡ c - code "0")
+decimal_small c d = by (is_decimal c)
   where
-    by : (b : Bool) → Some d ≡ (if b then Some (c - code "0") else None) → d ≡ c - code "0"
-    by true e = cc
+    by : (b : Bool) → Some d ≡ (if b then Some (c - code "0") else None) → (b ≡ true) × (d ≡ c - code "0")
+    by true e = (refl, cc)
     by false e = cc
+
+-- its value alone
+pub digit_says : (c d : ℕ) → Some d ≡ digit_in c → d ≡ c - code "0"
+digit_says c d e = (decimal_small c d e).1
 
 -- ---- a field
 

@@ -3,12 +3,13 @@
 use mathlib.Core.Path.{◌≡◌, refl, sym, ◌∙◌, ap}
 use mathlib.Core.List.{List, [], ◌∷◌, ◌++◌, append_assoc}
 use Rattle.std.specs.Prelude.{Option, Some, None}
-use Prim.Native.Nat.{ℕ, ◌≤◌}
+use Prim.Native.Nat.{ℕ, ◌+◌, ◌≤◌, ◌<◌}
 use native.Mathlib.Omega.{arith}
 use lib.ListN.{length, drop, length-append}
+use lib.Seq.{drop-drop}
 use borrow.Author.Tests.{lt-leb}
 use Rattle.replay_calls.specs.Calls.{first_field, tabbed_fields, number_of, numbers_of, before, few, call_with}
-use Rattle.replay_calls.proofs.Fields.{fields_split, behind, behind_one}
+use Rattle.replay_calls.proofs.Fields.{split, fields_split, behind, behind_one}
 
 -- numbers before others, if those can be read
 abbrev pub following : List ℕ → Option (List ℕ) → Option (List ℕ)
@@ -45,3 +46,12 @@ few_enough w (Some (a ∷ b ∷ [])) = refl
 few_enough w (Some (a ∷ b ∷ c ∷ [])) = refl
 few_enough w (Some (a ∷ b ∷ c ∷ d ∷ [])) = refl
 few_enough w (Some (a ∷ b ∷ c ∷ d ∷ e ∷ ns)) = rw (lt-leb (length (a ∷ b ∷ c ∷ d ∷ e ∷ ns)) 4 (omega arith))
+
+-- no code goes place by place today, and the law stands: fields from a place on, at which a tab stands: the first, and those behind it
+pub tabbed_here : (l : List ℕ) (i : ℕ) → i < length l
+    → tabbed_fields (drop i l) ≡ first_field (drop (i + 1) l) ∷ tabbed_fields (drop (i + 1 + length (first_field (drop (i + 1) l))) l)
+tabbed_here l i h =
+    let rest = drop (i + 1) l in
+    ap tabbed_fields (split l i h)
+    ∙ fields_split rest
+    ∙ ap (λ (t : List ℕ). first_field rest ∷ tabbed_fields t) (drop-drop (length (first_field rest)) (i + 1) l)

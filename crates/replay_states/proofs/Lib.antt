@@ -1,3 +1,4 @@
 pub mod Saying
 pub mod Elements
 pub mod OneLine
+pub mod Shown

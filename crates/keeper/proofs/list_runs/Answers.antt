@@ -2,7 +2,7 @@
 use Rattle.std.proofs.Common.{◌-◌, arith}
 use Rattle.circle.specs.Lengths.{modulus}
 use Rattle.keeper.specs.Steps.{Lists}
-use Rattle.keeper.proofs.Listing.{lists_joined, lists_behind}
+use Rattle.keeper.proofs.Listing.{part_joined, part_behind}
 use Rattle.keeper.proofs.list_runs.Goals as goal
 use Rattle.keeper.proofs.list_runs.Goals.{Start}
 
@@ -11,8 +11,8 @@ lists c = record { losing = c.requires.0; within = omega arith; alike = omega ar
 
 pub returns-then-lost : goal.returns-then-lost
 returns-then-lost c =
-    lists_joined (lists (goal.at.returns-then-lost c).Start) c.if-lost.true (256 - (c.args.listed - 1)) (omega arith) _ _ c.list_gaps.ensures.starts_after c.list_gaps.ensures.ends_after
+    part_joined (lists (goal.at.returns-then-lost c).Start) c.if-lost.true (256 - (c.args.listed - 1)) (omega arith) _ _ c.list_gaps.ensures.starts_after c.list_gaps.ensures.ends_after
 
 pub returns : goal.returns
 returns c =
-    lists_behind (lists (goal.at.returns c).Start) c.if-lost.false (256 - c.args.listed) (omega arith) _ _ c.list_gaps-2.ensures.starts_after c.list_gaps-2.ensures.ends_after
+    part_behind (lists (goal.at.returns c).Start) c.if-lost.false (256 - c.args.listed) (omega arith) _ _ c.list_gaps-2.ensures.starts_after c.list_gaps-2.ensures.ends_after

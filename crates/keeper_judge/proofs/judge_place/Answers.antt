@@ -16,16 +16,16 @@ use Rattle.keeper_judge.proofs.judge_place.Goals.{After-has_record, After-half, 
 -- ---- what is known there
 
 -- the place is the machine's
-place_is : (c : After-has_record) → c.place-place.result ≡ place_of (state_shown c.args.held.now) c.args.number
-place_is c = c.place-place.ensures ∙ place_shown c.args.held.now c.from-base.result c.from-base.ensures c.args.number
+place_is : (c : After-has_record) → c.place_of-place.result ≡ place_of (state_shown c.args.held.now) c.args.number
+place_is c = c.place_of-place.ensures ∙ place_shown c.args.held.now c.from-base.result c.from-base.ensures c.args.number
 
 -- how far the number is forward from base
 far : (c : After-half) → let k = state_shown c.args.held.now in c.distance-distance.result ≡ forward (modulus_of k.bits) k.base c.args.number
 far c = c.distance-distance.ensures ∙ far_shown c.args.held.now c.from-base.result c.from-base.ensures c.args.number
 
 -- the number is not held
-new : (c : After-half) → has_record (state_shown c.args.held.now) c.args.number c.place-place.result ≡ false
-new c = sym (c.has_record.ensures ∙ bears_shown c.args.held.now c.from-base.result c.from-base.ensures c.args.number c.place-place.result) ∙ c.if-has_record.false
+new : (c : After-half) → has_record (state_shown c.args.held.now) c.args.number c.place_of-place.result ≡ false
+new c = sym (c.has_record.ensures ∙ bears_shown c.args.held.now c.from-base.result c.from-base.ensures c.args.number c.place_of-place.result) ∙ c.if-has_record.false
 
 -- half the circle, and the floor
 half_is : (c : After-half) → c.half.result ≡ half (state_shown c.args.held.now).bits
@@ -47,22 +47,22 @@ near c h = omega (arith, half_is c, floor_is c, h)
 pub has_record-requires : goal.has_record-requires
 has_record-requires c =
     let b = c.from-base.result in
-    omega (arith, c.place-place.ensures, front_within (ahead_of (modulus b.long) c.args.number) c.args.held.now.numbers.now)
+    omega (arith, c.place_of-place.ensures, front_within (ahead_of (modulus b.long) c.args.number) c.args.held.now.numbers.now)
 
 pub returns-then-has_record : goal.returns-then-has_record
 returns-then-has_record c =
     let h = c.args.held.now in
     let k = (goal.at.returns-then-has_record c).After-has_record in
     λ pdcp.
-    again (state_shown h) c.args.number pdcp _ c.place-place.result (place_is k) refl
-    (sym (c.has_record.ensures ∙ bears_shown h c.from-base.result c.from-base.ensures c.args.number c.place-place.result) ∙ c.if-has_record.true)
+    again (state_shown h) c.args.number pdcp _ c.place_of-place.result (place_is k) refl
+    (sym (c.has_record.ensures ∙ bears_shown h c.from-base.result c.from-base.ensures c.args.number c.place_of-place.result) ∙ c.if-has_record.true)
 
 pub returns-then-half-floor : goal.returns-then-half-floor
 returns-then-half-floor c =
     let h = c.args.held.now in
     let p = (goal.at.returns-then-half-floor c).After-has_record in
     let k = (goal.at.returns-then-half-floor c).After-half in
-    λ pdcp. span (state_shown h) c.args.number pdcp c.distance-distance.result c.place-place.result (place_is p) (far k) (new k) (omega (arith, half_is k, floor_is k, c.if-half-floor.true))
+    λ pdcp. span (state_shown h) c.args.number pdcp c.distance-distance.result c.place_of-place.result (place_is p) (far k) (new k) (omega (arith, half_is k, floor_is k, c.if-half-floor.true))
 
 pub returns-in_err-lost : goal.returns-in_err-lost
 returns-in_err-lost c =
@@ -73,7 +73,7 @@ returns-in_err-lost c =
     let err = err_from_is_err_and c.from_residual.result c.from_residual.ensures.1 in
     λ pdcp.
     rw (err.1, err.2, c.in_err-lost.ensures.0)
-    (many_runs h c.args.number pdcp c.distance-distance.result c.place-place.result (place_is p) (far k) (new k) (near k c.if-half-floor.false) (rw (limit_is l) at c.in_err-lost.ensures.1))
+    (many_runs h c.args.number pdcp c.distance-distance.result c.place_of-place.result (place_is p) (far k) (new k) (near k c.if-half-floor.false) (rw (limit_is l) at c.in_err-lost.ensures.1))
 
 pub returns-then-held-ge-MOST_RECORDS : goal.returns-then-held-ge-MOST_RECORDS
 returns-then-held-ge-MOST_RECORDS c =
@@ -82,14 +82,14 @@ returns-then-held-ge-MOST_RECORDS c =
     let k = (goal.at.returns-then-held-ge-MOST_RECORDS c).After-half in
     let l = (goal.at.returns-then-held-ge-MOST_RECORDS c).After-saturating_sub in
     λ pdcp.
-    many_records h c.args.number pdcp c.distance-distance.result c.place-place.result (place_is p) (far k) (new k) (near k c.if-half-floor.false)
+    many_records h c.args.number pdcp c.distance-distance.result c.place_of-place.result (place_is p) (far k) (new k) (near k c.if-half-floor.false)
     c.in_ok-lost.lost (c.in_ok-lost.ensures.0 ∙ limit_is l) c.in_ok-lost.ensures.1 (omega (arith, count_shown c.args.held.now, c.if-held-ge-MOST_RECORDS.true))
 
 pub arrived_base-base-requires : goal.arrived_base-base-requires
 arrived_base-base-requires c =
     let l = (goal.at.arrived_base-base-requires c).After-saturating_sub in
     let b = c.from-base.result in (
-      omega (arith, c.place-place.ensures, front_within (ahead_of (modulus b.long) c.args.number) c.args.held.now.numbers.now),
+      omega (arith, c.place_of-place.ensures, front_within (ahead_of (modulus b.long) c.args.number) c.args.held.now.numbers.now),
       omega (arith, c.distance-distance.ensures, modulus_bounds b.long, distance_below b.long b.at c.args.number),
       c.in_ok-lost.ensures.0 ∙ limit_is l,
       reaches_shown c.args.held.now b c.from-base.ensures c.in_ok-lost.lost c.in_ok-lost.ensures.1,
@@ -102,6 +102,6 @@ returns c =
     let k = (goal.at.returns c).After-half in
     let l = (goal.at.returns c).After-saturating_sub in
     λ pdcp.
-    accepted h c.args.number pdcp c.distance-distance.result c.place-place.result (place_is p) (far k) (new k) (near k c.if-half-floor.false)
+    accepted h c.args.number pdcp c.distance-distance.result c.place_of-place.result (place_is p) (far k) (new k) (near k c.if-half-floor.false)
     c.in_ok-lost.lost (c.in_ok-lost.ensures.0 ∙ limit_is l) c.in_ok-lost.ensures.1 (omega (arith, count_shown c.args.held.now, c.if-held-ge-MOST_RECORDS.false))
-    c.arrived_base-base.result (c.arrived_base-base.ensures ∙ arrived_shown c.args.held.now c.from-base.result c.from-base.ensures c.place-place.result c.distance-distance.result)
+    c.arrived_base-base.result (c.arrived_base-base.ensures ∙ arrived_shown c.args.held.now c.from-base.result c.from-base.ensures c.place_of-place.result c.distance-distance.result)

@@ -59,7 +59,7 @@ ranges-2-preserved c =
     record {
       can = tt;
       finite = tt;
-      reached = next_stored v.reached (omega arith) _;
+      reached = next_stored v.reached (omega arith) _ _;
       as_many = v.as_many;
       few = omega arith;
       same = λ L form. still (held_in o.marked.entries.slots c.args.entries.now.count) o.passed o.marked.lost (ahead_of o.view) o.invariant.same shown v.same L form
@@ -79,7 +79,7 @@ loop-i-preserved c =
           let onward = w.number-is ∙ w.onward-number.ensures in
           rw (w.marked-is, onward, w.further-is)
           (record {
-            reached = next_stored v.reached (omega arith) _;
+            reached = next_stored v.reached (omega arith) _ _;
             as_many = v.as_many;
             few = omega arith;
             same = λ L form. v.same L form ∙ one_found v.reached (omega arith) _ _ w.as_lost.ensures _ _ _ _ _ hit (not_last v.on_way w.if-further-eq0.false) L form;

@@ -3,7 +3,7 @@ use Rattle.std.proofs.Common.{◌≡◌, ℕ, ◌+◌, ◌*◌, ◌<◌, Some, L
 use Rattle.basics.specs.Basics.{all}
 use Rattle.basics.proofs.Laying.{laid_octet, laid_none, Still, still_on}
 use Rattle.lister_text.specs.Hexadecimal.{is_digit, octet_said, octets_in}
-use Rattle.lister_text.proofs.Hex.{octets_pair, digits_pair, pair_at}
+use Rattle.lister_text.proofs.Hex.{octets_said, digits_said, pair_at}
 use Rattle.lister_text.proofs.decode.Goals as goal
 
 -- pair k of a line says an octet
@@ -14,11 +14,11 @@ module _ (line : List ℕ) (k x : ℕ) (h : 2 * k + 1 < length line) (said : Som
   -- which is stored
   still_pair : {d e : List ℕ} → Still d 0 (octets_in line) e k (octets_in (drop (2 * k) line)) → Still d 0 (octets_in line) (set e k x) (k + 1) (octets_in (drop (2 * (k + 1)) line))
   still_pair {d} {e} s =
-      rw (← place) (still_on (rw (pair_at line (2 * k) h, octets_pair _ _ (drop (2 * k + 2) line) said) at s) (laid_octet refl (laid_none (set e k x) refl)))
+      rw (← place) (still_on (rw (pair_at line (2 * k) h, octets_said _ _ (drop (2 * k + 2) line) said) at s) (laid_octet refl (laid_none (set e k x) refl)))
 
   -- and both characters are digits
   digits_on : all is_digit (drop (2 * k) line) ≡ all is_digit line → all is_digit (drop (2 * (k + 1)) line) ≡ all is_digit line
-  digits_on e = rw (← place) (sym (digits_pair _ _ (drop (2 * k + 2) line) said) ∙ (rw (pair_at line (2 * k) h) at e))
+  digits_on e = rw (← place) (sym (digits_said _ _ (drop (2 * k + 2) line) said) ∙ (rw (pair_at line (2 * k) h) at e))
 
 pub loop-k-preserved : goal.loop-k-preserved
 loop-k-preserved c =
