@@ -15,7 +15,7 @@ use Rattle.frame_reader.specs.Answers.{reading_of, there}
 use Rattle.frame_reader.proofs.Walk.{before, stands, all_there}
 use Rattle.basics.proofs.Apart.{apart}
 use Rattle.c_calls.specs.Boundary.{fields_of, ranges_in, answer_of, itself, minus, type_of, leaves, begins}
-use Rattle.c_calls.specs.Looks.{kind_of, before_first, is_status, answer_to, no_type}
+use Rattle.c_calls.specs.Looks.{kind_of, before_first, is_status, answer_to, first_of, no_type}
 
 -- the count in a status's head is how many ranges it has
 pub status_fields_lem : (s old : List ℕ) (h : Head) → 0 ∷ h.highest ∷ h.desired ∷ h.minimum ∷ bit h.last ∷ h.count ∷ [] ≡ fields_of old (reading_of s (read.Status h))
@@ -49,16 +49,16 @@ type_there s kind.LongData true st e is t = absurd (omega (arith, t))
 type_there s kind.LongData false st e is t = absurd (omega (arith, t))
 
 -- by what a look tells, the ranges are there
-pub listed : (s old : List ℕ) (r : Reading) (k : FrameType) → read_frame s ≡ r → done (number_of k) ≡ kind_of r
+pub listed_type : (s old : List ℕ) (r : Reading) (k : FrameType) → read_frame s ≡ r → done (number_of k) ≡ kind_of r
     → there_from s (before_first k (get_or (fields_of old r) 5 0)) ≡ ranges_in r
-listed s old (data_of b n) kind.Data e t = refl
-listed s old (data_of b n) kind.LongData e t = refl
-listed s old (data_of true n) kind.Status e t = apart (cc)
-listed s old (data_of true n) kind.LongStatus e t = apart (cc)
-listed s old (data_of false n) kind.Status e t = apart (cc)
-listed s old (data_of false n) kind.LongStatus e t = apart (cc)
-listed s old (status_of st) k e t = let type : number_of k ≡ status_type st.long = cc in type_there s k st.long st e refl type
-listed s old (refuse n) k e t = apart (cc)
+listed_type s old (data_of b n) kind.Data e t = refl
+listed_type s old (data_of b n) kind.LongData e t = refl
+listed_type s old (data_of true n) kind.Status e t = apart (cc)
+listed_type s old (data_of true n) kind.LongStatus e t = apart (cc)
+listed_type s old (data_of false n) kind.Status e t = apart (cc)
+listed_type s old (data_of false n) kind.LongStatus e t = apart (cc)
+listed_type s old (status_of st) k e t = let type : number_of k ≡ status_type st.long = cc in type_there s k st.long st e refl type
+listed_type s old (refuse n) k e t = apart (cc)
 
 -- what is refused has none
 pub refused_none : (r : Reading) (n : ℕ) → refused n ≡ kind_of r → ranges_in r ≡ []
@@ -66,21 +66,19 @@ refused_none (data_of b m) n e = refl
 refused_none (status_of st) n e = apart (cc)
 refused_none (refuse m) n e = refl
 
--- no status has no ranges
-pub unlisted : (r : Reading) (k : ℕ) → done k ≡ kind_of r → is_status k ≡ false → ranges_in r ≡ []
-unlisted (data_of long n) k e t = refl
-unlisted (status_of st) k e t = let is : k ≡ status_type st.long = cc in by st.long (rw is at t)
-  where
-    by : (b : Bool) → is_status (status_type b) ≡ false → st.ranges ≡ []
-    by true t = apart (cc)
-    by false t = apart (cc)
-unlisted (refuse n) k e t = refl
-
 -- the answer to what is seen is its type, or minus the number of the refusal
 pub type_said : (r : Reading) → answer_of itself (kind_of r) ≡ type_of r
 type_said (data_of long n) = refl
 type_said (status_of st) = refl
 type_said (refuse n) = refl
+
+-- a refusal leaves the cursor
+pub begins_refused : (old : List ℕ) (r : Reading) (n : ℕ) → refused n ≡ kind_of r → leaves (minus n) old ≡ begins old r
+begins_refused old (data_of long m) n e = apart (cc)
+begins_refused old (status_of st) n e = apart (cc)
+begins_refused old (refuse m) n e = let same : n ≡ m = cc in ap (λ (k : ℕ). leaves (minus k) old) same
+
+-- ---- the same by numbers. No call of C's goes so today; the laws stand
 
 -- the number of what was read: its type, or past every type
 abbrev pub type_number : Reading → ℕ
@@ -94,7 +92,7 @@ refusal_of (data_of long n) = 0
 refusal_of (status_of s) = 0
 refusal_of (refuse n) = n
 
--- by both numbers
+-- the answer by both is the type or the refusal
 pub told : (r : Reading) → answer_to (type_number r) (refusal_of r) ≡ type_of r
 told (data_of true n) = refl
 told (data_of false n) = refl
@@ -105,8 +103,24 @@ told (status_of s) = by s.long
     by false = refl
 told (refuse n) = refl
 
--- a refusal leaves the cursor
-pub begins_refused : (old : List ℕ) (r : Reading) (n : ℕ) → refused n ≡ kind_of r → leaves (minus n) old ≡ begins old r
-begins_refused old (data_of long m) n e = apart (cc)
-begins_refused old (status_of st) n e = apart (cc)
-begins_refused old (refuse m) n e = let same : n ≡ m = cc in ap (λ (k : ℕ). leaves (minus k) old) same
+-- the cursor before a status's first range
+first_is : (b : Bool) (st : Status) → st.long ≡ b → first_of (status_type b) (length st.ranges) ≡ before st
+first_is true st e = rw e
+first_is false st e = rw e
+
+-- the ranges of a status are there
+pub listed : (s old : List ℕ) (r : Reading) → read_frame s ≡ r → is_status (type_number r) ≡ true → there s (first_of (type_number r) (get_or (fields_of old r) 5 0)) ≡ ranges_in r
+listed s old (data_of true n) e t = apart (cc)
+listed s old (data_of false n) e t = apart (cc)
+listed s old (status_of st) e t = status_there s st _ e (first_is st.long st refl)
+listed s old (refuse n) e t = apart (cc)
+
+-- no status has no ranges
+pub unlisted : (r : Reading) → is_status (type_number r) ≡ false → ranges_in r ≡ []
+unlisted (data_of long n) t = refl
+unlisted (status_of st) t = by st.long t
+  where
+    by : (b : Bool) → is_status (status_type b) ≡ false → st.ranges ≡ []
+    by true t = apart (cc)
+    by false t = apart (cc)
+unlisted (refuse n) t = refl

@@ -141,13 +141,15 @@ module _ {lost : Losses} {M base : ℕ} {ns ss es : List ℕ} {n : ℕ} (h : Lis
         rw (e-starts, e-ends, slot, same_gaps l.reaches, l.runs_are)
         (listed_behind M ss es n h.within h.alike (new_runs M base ns lost.limit) (sym l.joins_is ∙ e) (omega (arith, l.runs_are, h.few)))
 
-  -- the same, written to a part from there on, by a pass over a part of the numbers
+  -- the same by a pass over a part of the numbers
   abbrev part_passed : List Gap
   part_passed = gaps 0 lost.limit (offsets M base (take (length ns - lost.from) (drop lost.from ns)))
 
+  -- what is put into a part is put from its first slot on
   part_put : (at k : ℕ) (a e : List ℕ) (of : List Gap → List ℕ) → at + k ≡ length a → e ≡ sets (take k (drop at a)) 0 (of part_passed) → put_mid at k a e ≡ sets a at (of passed)
   part_put at k a e of room is = put_sets at k a (of part_passed) e room is ∙ rw take_rest
 
+  -- written to parts from the last listed slot on: the first joins, and the slot keeps its start
   pub part_joined : lost.joins ≡ true → (k : ℕ) → (n - 1) + k ≡ length ss → (ss' es' : List ℕ)
       → ss' ≡ sets (take k (drop (n - 1) ss)) 0 (starts_of (runs_of M base part_passed)) → es' ≡ sets (take k (drop (n - 1) es)) 0 (ends_of (runs_of M base part_passed))
       → take lost.runs (ranges_of (set (put_mid (n - 1) k ss ss') (n - 1) (get_or ss (n - 1) 0)) (put_mid (n - 1) k es es'))
@@ -158,6 +160,7 @@ module _ {lost : Losses} {M base : ℕ} {ns ss es : List ℕ} {n : ℕ} (h : Lis
       (part_put (n - 1) k es es' (λ gs. ends_of (runs_of M base gs)) (omega (arith, h.alike)) t)
       e (get_or ss (n - 1) 0) refl
 
+  -- written to parts from the first free slot on
   pub part_behind : lost.joins ≡ false → (k : ℕ) → n + k ≡ length ss → (ss' es' : List ℕ)
       → ss' ≡ sets (take k (drop n ss)) 0 (starts_of (runs_of M base part_passed)) → es' ≡ sets (take k (drop n es)) 0 (ends_of (runs_of M base part_passed))
       → take lost.runs (ranges_of (put_mid n k ss ss') (put_mid n k es es')) ≡ runs_joined M (take n (ranges_of ss es)) (new_runs M base ns lost.limit)

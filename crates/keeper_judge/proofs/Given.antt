@@ -68,7 +68,7 @@ module _ (M base : ℕ) (ns es : List ℕ) (runs : List Range) (seen : ends_of r
 -- ---- the same in two cases
 
 -- nothing, when so many runs are listed
-abbrev none_lost : ℕ → ℕ → ℕ → Losses
+abbrev pub none_lost : ℕ → ℕ → ℕ → Losses
 none_lost from limit listed = record { from = from; limit = limit; numbers = 0; runs = listed; joins = false }
 
 -- nothing is told of no gap

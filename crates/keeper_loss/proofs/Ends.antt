@@ -42,7 +42,7 @@ module _ (p : ℕ → Bool) where
   front_at (x ∷ xs) zero l h a = rw h (ap suc (front_none p xs a))
   front_at (x ∷ xs) (suc i) l h a = rw (one_not (x ∷ xs) (suc i) l h) (ap suc (front_at xs i (omega arith) h a))
 
-  -- ... place by place
+  -- the same, where each place behind it is asked by itself
   pub front_after : (xs : List ℕ) (i : ℕ) → i < length xs → p (get_or xs i 0) ≡ false → ((k : ℕ) → i < k → k < length xs → p (get_or xs k 0) ≡ true)
       → front_of p xs ≡ i + 1
   front_after [] i l h a = absurd (omega arith)

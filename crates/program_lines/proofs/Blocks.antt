@@ -29,11 +29,6 @@ before_onto (x ∷ l) c [] = refl
 before_onto [] c (l ∷ ls) = refl
 before_onto (x ∷ k) c (l ∷ ls) = ap (λ (t : List ℕ). (x ∷ t) ∷ ls) (append_snoc k c l)
 
--- the line feed that a last line lacks; an empty one is none
-abbrev pub ending : List ℕ → List ℕ
-ending [] = []
-ending (c ∷ cs) = line_feed ∷ []
-
 module _ {S : Type 0} (p : Answering S) (tells : FrontTells p) where
   -- ---- feeding without a limit of room
 
@@ -87,9 +82,15 @@ module _ {S : Type 0} (p : Answering S) (tells : FrontTells p) where
   pub calls_answer : CallsAnswer p
   calls_answer s s' input t last cs = calls_told cs ∙ told_answers s input
 
-  -- ---- a last line
+-- ---- a last line
 
-  -- fed the line feed that it lacks, it is answered as a last line is
+-- the line feed that it lacks; an empty one is none
+abbrev pub ending : List ℕ → List ℕ
+ending [] = []
+ending (c ∷ cs) = line_feed ∷ []
+
+-- fed that, it is answered as a last line is
+module _ {S : Type 0} (p : Answering S) where
   pub last_said : (room : ℕ) (s : S) (last : List ℕ) → room_for p room ≡ true → (feeding p room s last (ending last)).said ≡ last_of p s last
   last_said room s [] r = refl
   last_said room s (c ∷ cs) r = rw r (append-nil (p.answer s (c ∷ cs)))

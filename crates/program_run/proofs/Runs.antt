@@ -248,7 +248,7 @@ ran_told p s tells says = record {
   all = λ e. let a = says.all e in (a.0 ∙ told_answers p tells s says.read, a.1);
 }
 
--- ---- a call of the code, by what it leaves alone. No code is proved so today; the laws stand
+-- ---- a call of the code, by nothing but what it leaves. No code is proved so today; the laws stand
 
 -- where more of what an input has is to be read, an octet of it came
 pub some_came : (more : Bool) (n : ℕ) → (more ≡ true → 0 < n) → bit more ≤ n

@@ -9,7 +9,7 @@ use Rattle.frame_layout.specs.Types.{number_of}
 use Rattle.c_calls.specs.Boundary.{leaves, said, type_of, itself, ranges_in}
 use Rattle.c_calls.specs.Looks.{kind_of, before_first}
 use Rattle.c_calls.proofs.Answers.{left_as, said_as}
-use Rattle.c_calls.proofs.Statuses.{there_from, listed, refused_none, type_said}
+use Rattle.c_calls.proofs.Statuses.{there_from, listed_type, refused_none, type_said}
 use Rattle.c_frames.proofs.x2u_read_all.Goals as goal
 use Rattle.c_frames.proofs.x2u_read_all.Goals.{in-Ok+in-Some, in-Ok+in_default-before_first, in_default}
 
@@ -28,7 +28,7 @@ returns c =
     let saw = c.look-seen.ensures in
     let kind : (t : Result FrameType Refusal) → c.look-seen.result ≡ t → numbers.answer_of number_of t ≡ kind_of r = λ t e. ap (numbers.answer_of number_of) (sym e) ∙ saw.0 in
     let there : (k : FrameType) → c.look-seen.result ≡ Ok k → there_from s (before_first k (get_or c.look-seen.new.fields 5 0)) ≡ ranges_in r = λ k e.
-    ap (λ (l : List ℕ). there_from s (before_first k (get_or l 5 0))) saw.1 ∙ listed s a.fields.now r k refl (kind (Ok k) e) in
+    ap (λ (l : List ℕ). there_from s (before_first k (get_or l 5 0))) saw.1 ∙ listed_type s a.fields.now r k refl (kind (Ok k) e) in
     let put : Put a.starts.now a.ends.now (ranges_in r) m.starts m.ends c.look-seen.result m.seen = elim m.branch [
       | in-Ok+in-Some w ↦
           let all = ap (there_from s) w.in-Some.ensures ∙ there w.in-Ok.kind w.in-Ok.is in
